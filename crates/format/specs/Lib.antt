@@ -1,0 +1,15 @@
+pub mod Places
+pub mod Orders
+pub mod Text
+pub mod Recogniser
+pub mod Answers
+pub mod Sheets
+pub mod Meaning
+pub mod Scalars
+pub mod Texts
+pub mod Items
+pub mod Links
+pub mod Archive
+pub mod Builder
+pub mod Life
+pub mod Samples
