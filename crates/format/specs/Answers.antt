@@ -27,12 +27,17 @@ abbrev pub unless : {A : Type 0} → Bool → Answer A → Answer A → Answer A
 unless true x y = y
 unless false x y = x
 
--- the same fault n bytes further on
+-- the same fault n bytes further on, and one level deeper
+abbrev pub further : ℕ → Fault → Fault
+further n e = record { number = e .number; place = n + e .place; depth = e .depth }
+
+abbrev pub deeper : Fault → Fault
+deeper e = record { number = e .number; place = e .place; depth = stop (e .depth + 1) }
+
 abbrev pub shifted : {A : Type 0} → ℕ → Answer A → Answer A
 shifted n (good a) = good a
-shifted n (bad e) = bad (record { number = e .number; place = n + e .place; depth = e .depth })
+shifted n (bad e) = bad (further n e)
 
--- the same fault one level deeper
 abbrev pub inside : {A : Type 0} → Answer A → Answer A
 inside (good a) = good a
-inside (bad e) = bad (record { number = e .number; place = e .place; depth = stop (e .depth + 1) })
+inside (bad e) = bad (deeper e)

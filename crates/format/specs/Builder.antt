@@ -6,6 +6,7 @@ use lib.ListN.{length, take, drop}
 use lib.Dec.{leb, eqb}
 use Rattle.format.specs.Places.{limit, stop, up, zeros, put}
 use Rattle.format.specs.Answers.{Answer, good, bad, fault, unless, both}
+use Rattle.format.specs.Sheets.{ended}
 use Rattle.format.specs.Meaning.{Meaning, Laid}
 
 pub record Builder : Type 0 where
@@ -76,8 +77,8 @@ module _ (b : Builder) where
   change (push-bytes xs a) = unless (allowed a) (fault 3 0) (appended (max 1 a) xs)
   change (build m v) =
       unless (leb (length v) limit) (fault 1 0)
-      (both (m .scan v) (λ e. unless (eqb e (length v)) (fault 15 e)
-      (let h = up (b .used) (m .align) in
+      (both (m .scan v) (λ e. both (ended v e) (λ _.
+      let h = up (b .used) (m .align) in
       let x = m .lay v h (stop (h + m .size)) in
       unless (leb (x .end) (b .room)) (fault 4 0)
       (good (record { answer = h; from = b .used; bytes = zeros (h - b .used) ++ (x .head ++ x .tail); used = x .end; align = max (b .align) (x .widest) })))))

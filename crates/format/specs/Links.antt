@@ -6,7 +6,7 @@ use lib.Dec.{eqb}
 use Rattle.format.specs.Places.{part, up, zeros, stop}
 use Rattle.format.specs.Orders.{Order, low-first}
 use Rattle.format.specs.Answers.{Answer, good, unless, both, shifted, inside}
-use Rattle.format.specs.Sheets.{RP, AN, AR, SL, marked, number-of}
+use Rattle.format.specs.Sheets.{pointer-mark, array-mark, far-array-mark, slice-mark, marked, number-of}
 use Rattle.format.specs.Meaning.{Meaning, Laid, sits}
 use Rattle.format.specs.Texts.{target}
 use Rattle.format.specs.Items.{row}
@@ -43,21 +43,21 @@ link mark m o = record {
 }
 
 abbrev pub pointer : Meaning → Order → Meaning
-pointer = link RP
+pointer = link pointer-mark
 
 abbrev pub far-array : ℕ → Meaning → Order → Meaning
-far-array n m = link AR (row m n)
+far-array n m = link far-array-mark (row m n)
 
 -- n values of m in the head itself
 abbrev pub array : ℕ → Meaning → Meaning
 array n m = record {
   size = row m n .size;
   align = m .align;
-  scan = behind AN 0 (row m n);
-  kept = λ v. AN ++ row m n .kept (drop 2 v);
+  scan = behind array-mark 0 (row m n);
+  kept = λ v. array-mark ++ row m n .kept (drop 2 v);
   lay = λ v. row m n .lay (drop 2 v);
   shallow = λ a p. inside (both (row m n .shallow a p) (λ _. good p));
-  reading = held AN (row m n);
+  reading = held array-mark (row m n);
 }
 
 -- count values in an archive, from a place on
@@ -76,9 +76,9 @@ abbrev pub slice : Meaning → Order → Meaning
 slice m o = record {
   size = 8;
   align = 4;
-  scan = λ v. behind SL 4 (row m (number-of 4 v)) v;
+  scan = λ v. behind slice-mark 4 (row m (number-of 4 v)) v;
   kept = λ v. take 6 v ++ row m (number-of 4 v) .kept (drop 6 v);
   lay = λ v h t. far (o .lay 4 (number-of 4 v) ++ o .lay 4 (up t (m .align) - (h + 4))) (row m (number-of 4 v)) (drop 6 v) t;
   shallow = λ a p. both (slice-at m o a p) (λ _. good p);
-  reading = λ a p. both (slice-at m o a p) (λ s. held (SL ++ low-first 4 (s .count)) (row m (s .count)) a (s .place));
+  reading = λ a p. both (slice-at m o a p) (λ s. held (slice-mark ++ low-first 4 (s .count)) (row m (s .count)) a (s .place));
 }

@@ -1,13 +1,11 @@
 -- Numbers, truths and characters. Assumes nothing.
-use mathlib.Core.Bool.{Bool, true}
+use mathlib.Core.Bool.{Bool}
 use mathlib.Core.List.{List, []}
 use Prim.Native.Nat.{ℕ}
-use lib.Dec.{ltb}
-use lib.Utf8.{scalar}
 use Rattle.format.specs.Places.{part}
 use Rattle.format.specs.Orders.{Order}
 use Rattle.format.specs.Answers.{Answer, good, fault, unless, both}
-use Rattle.format.specs.Sheets.{N, BO, CH, scan-number, number-of, number-sheet}
+use Rattle.format.specs.Sheets.{number-mark, truth-mark, character-mark, scan-number, number-of, number-sheet, any, is-truth, is-character}
 use Rattle.format.specs.Meaning.{Meaning, Laid}
 
 -- the number of w bytes at p, if it passes a test: else 24
@@ -25,18 +23,12 @@ scalar-kind mark w valid o = record {
   reading = λ a p. both (number-at w valid o a p) (λ n. good (number-sheet mark w n));
 }
 
-abbrev pub any : ℕ → Bool
-any n = true
-
 abbrev pub number-kind : ℕ → Order → Meaning
-number-kind w = scalar-kind (N w) w any
-
-abbrev pub is-truth : ℕ → Bool
-is-truth n = ltb n 2
+number-kind w = scalar-kind (number-mark w) w any
 
 abbrev pub truth-kind : Order → Meaning
-truth-kind = scalar-kind BO 1 is-truth
+truth-kind = scalar-kind truth-mark 1 is-truth
 
 -- a character is a Unicode scalar value
 abbrev pub character-kind : Order → Meaning
-character-kind = scalar-kind CH 4 scalar
+character-kind = scalar-kind character-mark 4 is-character

@@ -8,7 +8,7 @@ use Rattle.format.specs.Places.{part, up, zeros, stop}
 use Rattle.format.specs.Orders.{Order}
 use Rattle.format.specs.Recogniser.{is-text, among}
 use Rattle.format.specs.Answers.{Answer, good, fault, unless, both}
-use Rattle.format.specs.Sheets.{TX, TI, scan-text, text-of, text-sheet}
+use Rattle.format.specs.Sheets.{text-mark, inline-mark, scan-text, text-of, text-sheet}
 use Rattle.format.specs.Meaning.{Meaning, Laid, sits}
 
 -- where the distance n leads that stands at p: it is signed, of 32 bits, counted from p; below place 0 is 21
@@ -39,11 +39,11 @@ abbrev pub text-kind : Order → Meaning
 text-kind o = record {
   size = 8;
   align = 4;
-  scan = scan-text TX;
+  scan = scan-text text-mark;
   kept = λ v. v;
   lay = λ v h t. let bs = text-of v in record { head = o .lay 4 (length bs) ++ o .lay 4 (t - (h + 4)); tail = bs; end = stop (t + length bs); widest = 4 };
   shallow = λ a p. both (text-at o a p) (λ _. good p);
-  reading = λ a p. both (text-at o a p) (λ x. good (text-sheet TX (x .bytes)));
+  reading = λ a p. both (text-at o a p) (λ x. good (text-sheet text-mark (x .bytes)));
 }
 
 -- a place where a text may be cut: its end, or a byte that is not 80 to BF hexadecimal
@@ -66,9 +66,9 @@ abbrev pub inline-kind : ℕ → Order → Meaning
 inline-kind c o = record {
   size = inline-size c;
   align = 4;
-  scan = scan-text TI;
-  kept = λ v. text-sheet TI (cut c (text-of v));
+  scan = scan-text inline-mark;
+  kept = λ v. text-sheet inline-mark (cut c (text-of v));
   lay = λ v h t. let bs = cut c (text-of v) in record { head = o .lay 4 (length bs) ++ (bs ++ zeros (inline-size c - (4 + length bs))); tail = []; end = t; widest = 4 };
   shallow = λ a p. both (inline-at c o a p) (λ _. good p);
-  reading = λ a p. both (inline-at c o a p) (λ x. good (text-sheet TI (x .bytes)));
+  reading = λ a p. both (inline-at c o a p) (λ x. good (text-sheet inline-mark (x .bytes)));
 }

@@ -1,0 +1,2 @@
+mod Over
+mod Spelled

@@ -1,0 +1,3 @@
+// Byte orders, and the widths of the numbers that are laid by them.
+pub mod order;
+pub mod width;
