@@ -1,2 +1,1 @@
-mod Over
 mod Spelled

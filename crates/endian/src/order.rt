@@ -50,19 +50,19 @@ pub impl Endian for LittleEndian as LittleEndianOrder {
     ghost order = { little };
 
     fn from_native_u8(v: u8) -> [u8; 1] {
-        v.to_le_bytes()
+        u8::to_le_bytes(v)
     }
 
     fn from_native_u16(v: u16) -> [u8; 2] {
-        v.to_le_bytes()
+        u16::to_le_bytes(v)
     }
 
     fn from_native_u32(v: u32) -> [u8; 4] {
-        v.to_le_bytes()
+        u32::to_le_bytes(v)
     }
 
     fn from_native_u64(v: u64) -> [u8; 8] {
-        v.to_le_bytes()
+        u64::to_le_bytes(v)
     }
 
     fn to_native_u8(bytes: [u8; 1]) -> u8 {
@@ -86,19 +86,19 @@ pub impl Endian for BigEndian as BigEndianOrder {
     ghost order = { big };
 
     fn from_native_u8(v: u8) -> [u8; 1] {
-        v.to_be_bytes()
+        u8::to_be_bytes(v)
     }
 
     fn from_native_u16(v: u16) -> [u8; 2] {
-        v.to_be_bytes()
+        u16::to_be_bytes(v)
     }
 
     fn from_native_u32(v: u32) -> [u8; 4] {
-        v.to_be_bytes()
+        u32::to_be_bytes(v)
     }
 
     fn from_native_u64(v: u64) -> [u8; 8] {
-        v.to_be_bytes()
+        u64::to_be_bytes(v)
     }
 
     fn to_native_u8(bytes: [u8; 1]) -> u8 {

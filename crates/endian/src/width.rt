@@ -1,4 +1,5 @@
 use crate::order::Endian;
+use buffer::put_at;
 ghost use mathlib.Core.Path.{_≡_};
 ghost use Prim.Native.Nat.{ℕ, _+_, _^_, _<_, _≤_};
 ghost use lib.ListN.{length};
@@ -40,16 +41,16 @@ pub trait Primitive {
         ensures small { λ r. ⌜ r < 256 ^ width ⌝ };
 }
 
-#[derive(Clone, Copy, PartialEq, Eq, Debug)]
+#[derive(Clone, Copy)]
 pub struct Width1;
 
-#[derive(Clone, Copy, PartialEq, Eq, Debug)]
+#[derive(Clone, Copy)]
 pub struct Width2;
 
-#[derive(Clone, Copy, PartialEq, Eq, Debug)]
+#[derive(Clone, Copy)]
 pub struct Width4;
 
-#[derive(Clone, Copy, PartialEq, Eq, Debug)]
+#[derive(Clone, Copy)]
 pub struct Width8;
 
 pub impl Primitive for Width1 as Width1Primitive {
@@ -66,13 +67,11 @@ pub impl Primitive for Width1 as Width1Primitive {
     }
 
     fn take_back<E: Endian>(bytes: &[u8], at: usize) -> u8 {
-        let mut own = [0; 1];
-        own.copy_from_slice(&bytes[at..at + 1]);
-        E::to_native_u8(own)
+        E::to_native_u8(array_at(bytes, at))
     }
 
     fn lay<E: Endian>(n: u8, out: &mut [u8], at: usize) {
-        out[at..at + 1].copy_from_slice(&E::from_native_u8(n));
+        put_at(out, at, &E::from_native_u8(n));
     }
 
     fn widen(n: u8) -> u64 {
@@ -94,13 +93,11 @@ pub impl Primitive for Width2 as Width2Primitive {
     }
 
     fn take_back<E: Endian>(bytes: &[u8], at: usize) -> u16 {
-        let mut own = [0; 2];
-        own.copy_from_slice(&bytes[at..at + 2]);
-        E::to_native_u16(own)
+        E::to_native_u16(array_at(bytes, at))
     }
 
     fn lay<E: Endian>(n: u16, out: &mut [u8], at: usize) {
-        out[at..at + 2].copy_from_slice(&E::from_native_u16(n));
+        put_at(out, at, &E::from_native_u16(n));
     }
 
     fn widen(n: u16) -> u64 {
@@ -122,13 +119,11 @@ pub impl Primitive for Width4 as Width4Primitive {
     }
 
     fn take_back<E: Endian>(bytes: &[u8], at: usize) -> u32 {
-        let mut own = [0; 4];
-        own.copy_from_slice(&bytes[at..at + 4]);
-        E::to_native_u32(own)
+        E::to_native_u32(array_at(bytes, at))
     }
 
     fn lay<E: Endian>(n: u32, out: &mut [u8], at: usize) {
-        out[at..at + 4].copy_from_slice(&E::from_native_u32(n));
+        put_at(out, at, &E::from_native_u32(n));
     }
 
     fn widen(n: u32) -> u64 {
@@ -150,16 +145,22 @@ pub impl Primitive for Width8 as Width8Primitive {
     }
 
     fn take_back<E: Endian>(bytes: &[u8], at: usize) -> u64 {
-        let mut own = [0; 8];
-        own.copy_from_slice(&bytes[at..at + 8]);
-        E::to_native_u64(own)
+        E::to_native_u64(array_at(bytes, at))
     }
 
     fn lay<E: Endian>(n: u64, out: &mut [u8], at: usize) {
-        out[at..at + 8].copy_from_slice(&E::from_native_u64(n));
+        put_at(out, at, &E::from_native_u64(n));
     }
 
     fn widen(n: u64) -> u64 {
         n
     }
+}
+
+// The `N` bytes at `at`.
+fn array_at<const N: usize>(bytes: &[u8], at: usize) -> [u8; N]
+    requires { ⌜ at + N ≤ length (now bytes) ⌝ }
+    ensures { λ r. ⌜ r ≡ part at N (now (bytes .entry)) ⌝ }
+{
+    <[u8; N]>::try_from(&bytes[at..at + N]).unwrap()
 }

@@ -1,11 +1,12 @@
 -- Lists of bytes that are joined, cut, turned round and put over others. Assumes nothing.
-use mathlib.Core.Path.{_≡_, refl, sym, ap, _∙_}
-use mathlib.Core.List.{List, [], _∷_, _++_, reverse, reverse-cons}
-use Prim.Native.Nat.{ℕ, zero, suc, _+_, _-_, _≤_, _<_}
+use mathlib.Core.Path.{_≡_, sym, ap, ap₂, _∙_}
+use mathlib.Core.List.{List, [], _∷_, _++_, append-assoc, reverse, reverse-cons}
+use Prim.Native.Nat.{ℕ, zero, suc, _+_, _≤_}
 use native.Mathlib.Omega.{arith}
+use lib.Dec.{lit<}
 use lib.ListN.{length, take, drop}
-use Rattle.std.proofs.shelf.Lists.{length-append, length-take, length-take-le, length-drop, take-at, drop-at, drop-drop}
-use Rattle.format.specs.Places.{Bytes, part, put}
+use Rattle.std.proofs.shelf.Lists.{length-append, length-take, length-take-le, length-drop, take-at, drop-at, take-take, drop-take, take-append-drop}
+use Rattle.format.specs.Places.{Bytes, part, put, zeros}
 
 pub bytes-append : (xs ys : List ℕ) → Bytes xs → Bytes ys → Bytes (xs ++ ys)
 bytes-append [] ys a b = b
@@ -39,6 +40,17 @@ pub length-put : (buf : List ℕ) (p : ℕ) (xs : List ℕ) → p + length xs �
 length-put buf p xs h = simp (length-append, length-take, length-drop) (omega arith)
 
 -- what was put is there
-pub part-put : (buf : List ℕ) (p : ℕ) (xs : List ℕ) → p ≤ length buf → part p (length xs) (put buf p xs) ≡ xs
-part-put buf p xs h =
-    ap (take (length xs)) (drop-at (take p buf) (xs ++ drop (p + length xs) buf) p (length-take-le p buf h)) ∙ take-at xs (drop (p + length xs) buf) (length xs) refl
+pub part-put : (buf : List ℕ) (p : ℕ) (xs : List ℕ) (n : ℕ) → length xs ≡ n → p ≤ length buf → part p n (put buf p xs) ≡ xs
+part-put buf p xs n e h =
+    ap (take n) (drop-at (take p buf) (xs ++ drop (p + length xs) buf) p (length-take-le p buf h)) ∙ take-at xs (drop (p + length xs) buf) n e
+
+-- a front that is taken apart
+pub take-sum : (i j : ℕ) (v : List ℕ) → take (i + j) v ≡ take i v ++ take j (drop i v)
+take-sum i j v = sym (take-append-drop i (take (i + j) v)) ∙ ap₂ _++_ (take-take i (i + j) v (omega arith)) (drop-take i j v)
+
+pub take-sum-append : (i j : ℕ) (v t : List ℕ) → take (i + j) v ++ t ≡ take i v ++ (take j (drop i v) ++ t)
+take-sum-append i j v t = ap (λ z. z ++ t) (take-sum i j v) ∙ append-assoc (take i v) (take j (drop i v)) t
+
+pub bytes-zeros : (n : ℕ) → Bytes (zeros n)
+bytes-zeros zero = tt
+bytes-zeros (suc n) = (lit< tt, bytes-zeros n)

@@ -1,16 +1,18 @@
 -- The two byte orders keep the law of byte orders: proved of the lowest first at every width, and carried over by turning round. Assumes nothing.
-use mathlib.Core.Path.{_≡_, refl, sym, ap, ap₂, _∙_}
-use mathlib.Core.List.{List, [], _∷_, _++_, reverse, reverse-reverse}
+use mathlib.Core.Path.{_≡_, refl, ap, ap₂, _∙_}
+use mathlib.Core.Logic.{_⊎_, inl, inr}
+use mathlib.Core.List.{List, [], _∷_, reverse}
 use Prim.Native.Nat.{ℕ, zero, suc, _+_, _*_, _/_, _%_, _^_, _≤_, _<_}
-use native.Mathlib.Nat.{pow-suc, mod-add-div, mod-lt, mod-eq-of-lt, div-eq-of-lt, add-mul-mod-self-left, add-mul-div-left, zero-add}
+use native.Mathlib.Nat.{pow-suc, mod-add-div}
 use native.Mathlib.Omega.{arith}
 use lib.Dec.{lit<, lit≤}
 use lib.ListN.{length}
-use Rattle.std.proofs.shelf.Lists.{length-reverse}
+use lib.Pow.{pow-pos, pow-mono}
+use Rattle.std.proofs.shelf.Lists.{length-reverse, reverse-reverse}
 use Rattle.std.proofs.shelf.Bits.{div-below, mod-below}
-use Rattle.format.specs.Places.{Bytes}
+use Rattle.format.specs.Places.{Bytes, part, put}
 use Rattle.format.specs.Orders.{Width, Order, Undoes, low-first, number, little, big}
-use Rattle.format.proofs.ByteLists.{bytes-reverse}
+use Rattle.format.proofs.ByteLists.{bytes-reverse, part-put}
 
 -- of the lowest first, at every width
 pub length-low-first : (w n : ℕ) → length (low-first w n) ≡ w
@@ -68,3 +70,18 @@ width-4 = (2, (lit≤ tt, refl))
 
 pub width-8 : Width 8
 width-8 = (3, (lit≤ tt, refl))
+
+pub width-bounds : (w : ℕ) → Width w → (1 ≤ w) × (w ≤ 8)
+width-bounds w k = let low = pow-pos (k .0) in let high = pow-mono (k .1 .0) in let e = k .1 .1 in (omega arith, omega arith)
+
+-- in any order, a number that is laid over a buffer is taken back from there
+pub taken-from-put : (o : Order) → Undoes o → (w n : ℕ) → Width w → n < 256 ^ w → (buf : List ℕ) (p : ℕ) → p ≤ length buf → o .take-back (part p w (put buf p (o .lay w n))) ≡ n
+taken-from-put o law w n k h buf p l = ap (o .take-back) (part-put buf p (o .lay w n) w (law .long w n k h) l) ∙ law .laid w n k h
+
+-- the four widths
+pub width-cases : (w : ℕ) → Width w → (w ≡ 1) ⊎ ((w ≡ 2) ⊎ ((w ≡ 4) ⊎ (w ≡ 8)))
+width-cases w (zero, (h, e)) = inl e
+width-cases w (suc zero, (h, e)) = inr (inl e)
+width-cases w (suc (suc zero), (h, e)) = inr (inr (inl e))
+width-cases w (suc (suc (suc zero)), (h, e)) = inr (inr (inr e))
+width-cases w (suc (suc (suc (suc k))), (h, e)) = absurd (omega arith)

@@ -1,5 +1,5 @@
 -- Laws of the words of a sheet: in which case each answer comes. Assumes nothing.
-use mathlib.Core.Path.{_≡_, refl, sym, ap, _∙_}
+use mathlib.Core.Path.{_≡_, refl, sym, ap, ap₂, _∙_}
 use mathlib.Core.Bool.{Bool, true, false, _&&_}
 use mathlib.Core.Logic.{_⊎_, ⊎-elim}
 use mathlib.Core.List.{List, [], _∷_, _++_}
@@ -8,13 +8,13 @@ use native.Mathlib.Omega.{arith}
 use lib.ListN.{length, take, drop, getD, length-drop}
 use lib.Dec.{leb, eqb}
 use Rattle.std.proofs.shelf.Lists.{drop-drop, length-take-le}
-use Rattle.std.proofs.shelf.Tests.{le-leb, lt-leb, leb-true, eq-eqb, ne-eqb, and-from, and-left, and-right}
+use Rattle.std.proofs.shelf.Tests.{le-leb, lt-leb, leb-true, eqb-true, eq-eqb, ne-eqb, false≢true, and-parts, and-from, and-left, and-right}
 use Rattle.format.specs.Answers.{Answer, Fault, good, bad, fault, both, unless, shifted}
 use Rattle.format.specs.Orders.{number}
 use Rattle.format.specs.Recogniser.{is-text}
 use Rattle.format.specs.Places.{part}
 use Rattle.format.specs.Sheets.{at-place, number-read, text-read, any, same, marked, number-of, text-of, scan-number, scan-text, text-behind}
-use Rattle.format.proofs.AnswerLaws.{unless-true, unless-false, both-good, both-bad, fault-further, at-place-good, at-place-fault, at-place-then-bad, read-good, read-bad}
+use Rattle.format.proofs.AnswerLaws.{unless-true, unless-false, unless-parts, both-good, both-bad, fault-further, at-place-good, at-place-fault, at-place-then-bad, read-good, read-bad}
 
 -- the first two bytes against a mark
 same-two : (v mark : List ℕ) → 2 ≤ length v → length mark ≡ 2 → same (take 2 v) mark ≡ (eqb (getD v 0 0) (getD mark 0 0) && (eqb (getD v 1 0) (getD mark 1 0) && true))
@@ -63,6 +63,26 @@ module _ (mark : List ℕ) (n : ℕ) (v : List ℕ) where
     first : (b : Bool) → leb 2 (length v) ≡ b → Ends
     first true t = second (same (take 2 v) mark) refl (sym (unless-true (leb 2 (length v)) _ _ t) ∙ h)
     first false t = let k = sym (unless-false (leb 2 (length v)) (fault 12 0) _ t) ∙ h in let z : _≡_ {A = ℕ} 0 1 = cc in absurd (omega arith)
+
+-- the same by the two bytes of the mark
+same-true : (xs ys : List ℕ) → same xs ys ≡ true → xs ≡ ys
+same-true [] [] h = refl
+same-true [] (y ∷ ys) h = absurd (false≢true h)
+same-true (x ∷ xs) [] h = absurd (false≢true h)
+same-true (x ∷ xs) (y ∷ ys) h = let p = and-parts (eqb x y) (same xs ys) h in ap₂ _∷_ (eqb-true x y (p .0)) (same-true xs ys (p .1))
+
+same-self : (xs : List ℕ) → same xs xs ≡ true
+same-self [] = refl
+same-self (x ∷ xs) = and-from _ _ (eq-eqb x x refl) (same-self xs)
+
+module _ (mark : List ℕ) (n : ℕ) (v : List ℕ) where
+  pub marked-front : (e : ℕ) → marked mark n v ≡ good e → take 2 v ≡ mark
+  marked-front e h = same-true (take 2 v) mark (unless-parts (same (take 2 v) mark) _ _ e (unless-parts (leb 2 (length v)) _ _ e h .1) .0)
+
+  pub marked-from : take 2 v ≡ mark → 2 + n ≤ length v → marked mark n v ≡ good (2 + n)
+  marked-from h l =
+      unless-true (leb 2 (length v)) _ _ (le-leb 2 (length v) (omega arith)) ∙
+      (unless-true (same (take 2 v) mark) _ _ (ap (λ z. same z mark) h ∙ same-self mark) ∙ unless-true (leb (2 + n) (length v)) _ _ (le-leb (2 + n) (length v) l))
 
 -- where a number and a text end
 module _ (mark v : List ℕ) (e : ℕ) where

@@ -1,6 +1,0 @@
-use borrow.Author.Needs.{needs}
-use Rattle.endian.proofs.Over.{over}
-use Rattle.endian.proofs.width.Width8Primitive.lay.Needs as need
-
-pub returns : need.returns
-returns g c = search (needs, over)
