@@ -30,16 +30,19 @@ pub record Written (ls : List (List ℕ)) (sheet : List ℕ) (i : ℕ) : Type 0 
   pub left : sheet ++ texts-row (drop i ls) ≡ texts-sheet ls
   pub within : length sheet ≤ limit
 
+-- a text takes six bytes at least
 pub length-row : (ls : List (List ℕ)) → 6 * length ls ≤ length (texts-row ls)
 length-row [] = omega arith
 length-row (l ∷ ls) = let h = length-row ls in let k = length-append l (texts-row ls) in omega arith
 
+over-limit : (ls : List (List ℕ)) → limit < length (texts-sheet ls) → fault 1 0 ≡ sheet-of ls
+over-limit ls h = sym (unless-false (leb (length (texts-sheet ls)) limit) _ _ (lt-leb (length (texts-sheet ls)) limit h))
+
 pub too-many : (texts : List (RefT (List ℕ))) → limit < length texts → fault 1 0 ≡ sheet-of (held texts)
 too-many texts h =
-    let ls = held texts in
-    let l = length-row ls in
+    let l = length-row (held texts) in
     let k = length-map texts (λ x. x .now) in
-    sym (unless-false (leb (length (texts-sheet ls)) limit) _ _ (lt-leb (length (texts-sheet ls)) limit (omega arith)))
+    over-limit (held texts) (omega arith)
 
 pub written-none : (texts : List (RefT (List ℕ))) (sheet : List ℕ) (n : ℕ) → n ≡ length texts → sheet ≡ number-sheet slice-mark 4 n → Written (held texts) sheet 0
 written-none texts sheet n k e = record {
@@ -54,7 +57,7 @@ module _ (texts : List (RefT (List ℕ))) (sheet : List ℕ) (i : ℕ) (h : Writ
       let whole : sheet ≡ texts-sheet ls = sym (append-nil sheet) ∙ (ap (λ bs. sheet ++ bs) (sym (at-drop-all texts-row ls i (simp length-map l))) ∙ h .left) in
       ap good whole ∙ sym (unless-true (leb (length (texts-sheet ls)) limit) _ _ (le-leb (length (texts-sheet ls)) limit (omega (arith, ap length whole, h .within))))
 
-  -- the next text, where n is what the sheet has of bytes
+  -- the next text, where the sheet has n bytes so far
   module _ (d : RefT (List ℕ)) (n : ℕ) (k : i < length texts) (e : n ≡ length sheet) where
     abbrev text : List ℕ
     text = getD texts i d .now
@@ -71,7 +74,7 @@ module _ (texts : List (RefT (List ℕ))) (sheet : List ℕ) (i : ℕ) (h : Writ
         let a = length-append sheet (text-sheet text-mark text ++ behind) in
         let b = length-append text behind in
         let c = leb-false (n + (6 + length text)) limit (sym o) in
-        sym (unless-false (leb (length (texts-sheet (held texts))) limit) _ _ (lt-leb (length (texts-sheet (held texts))) limit (omega arith)))
+        over-limit (held texts) (omega arith)
 
     pub written-more : (s : List ℕ) → true ≡ leb (n + (6 + length (getD texts i d .now))) limit → s ≡ sheet ++ text-sheet text-mark (getD texts i d .now) → Written (held texts) s (i + 1)
     written-more s o w = record {
