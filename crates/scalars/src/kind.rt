@@ -12,9 +12,19 @@ use refusal::Refusal;
 use sheet;
 use std::marker::PhantomData;
 
+#[derive(Drop)]
 pub struct ScalarKind<S: Scalar, E: Endian> {
     scalar: PhantomData<S>,
     order: PhantomData<E>,
+}
+
+impl<S: Scalar, E: Endian> ScalarKind<S, E> {
+    pub fn new() -> Self {
+        ScalarKind {
+            scalar: PhantomData,
+            order: PhantomData,
+        }
+    }
 }
 
 pub impl<S: Scalar, E: Endian> Kind for ScalarKind<S, E> as ScalarKindKind {
