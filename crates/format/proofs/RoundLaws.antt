@@ -4,7 +4,7 @@ use mathlib.Core.Logic.{⊎-elim}
 use Prim.Native.Nat.{ℕ, suc, _+_, _-_, _*_, _/_, _%_, _^_, _≤_, _<_, max}
 use native.Mathlib.Nat.{mul-mod-left, div-add-mod', mod-lt, add-mod, zero-mod, mod-add-div, add-mul-mod-self-left, mul-assoc, suc-mul}
 use native.Mathlib.Omega.{arith}
-use lib.Pow.{pow-pos, pow-lt, pow-add, mod-mod-pow}
+use lib.Pow.{pow-pos, pow-mono, pow-lt, pow-add, mod-mod-pow}
 use Rattle.std.proofs.shelf.Tests.{cases-lt}
 use Rattle.format.specs.Places.{stop, up, Alignment}
 
@@ -73,3 +73,7 @@ stop-whole n s a l z =
 -- below where sizes stop, one item more is its size more
 pub stop-more : (n s : ℕ) → stop (suc n * s) < 2147483648 → stop (suc n * s) ≡ s + stop (n * s)
 stop-more n s h = let e = suc-mul n s in omega arith
+
+-- no alignment is above 4,096
+pub alignment-most : (a : ℕ) → Alignment a → a ≤ 4096
+alignment-most a (k, (h, e)) = subst (λ z. z ≤ 4096) (sym e) (pow-mono {i = k} {j = 12} h)

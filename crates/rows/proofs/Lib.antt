@@ -1,0 +1,5 @@
+pub mod Values
+mod ScanLeft
+mod ReadLeft
+mod CopyLeft
+mod LayLeft
