@@ -1,13 +1,42 @@
-// Runs samples: sequences that are text or not, words of sheets, and a count of all short texts.
+// Runs samples: sequences that are text or not, words of sheets, values in archives, and a count of all short texts.
 ghost use mathlib.Core.Path.{_≡_};
 ghost use Rattle.format.specs.Samples.{Worked};
+use archive::is_valid;
+use archive::is_valid_deep;
+use endian::order::BigEndian;
+use endian::order::BigEndianOrder;
+use endian::order::Endian;
+use endian::order::LittleEndian;
+use endian::order::LittleEndianOrder;
+use endian::width::Width1;
+use endian::width::Width1Primitive;
+use endian::width::Width2;
+use endian::width::Width2Primitive;
+use endian::width::Width4;
+use endian::width::Width4Primitive;
+use endian::width::Width8;
+use endian::width::Width8Primitive;
+use kind::Kind;
+use refusal::Refusal;
 use refusal::RefusalDisplay;
+use scalars::Character;
+use scalars::CharacterScalar;
+use scalars::Number;
+use scalars::NumberScalar;
+use scalars::ScalarKind;
+use scalars::ScalarKindKind;
+use scalars::Truth;
+use scalars::TruthScalar;
 use sheet::Form;
 use sheet::Read;
 use sheet::Word;
 use std::alloc::AllocError;
 use std::alloc::Global;
 use std::error::AnyError;
+use texts::ZeroStr;
+use texts::ZeroStrKind;
+use texts::ZeroString;
+use texts::ZeroStringKind;
 use utf8::is_text;
 
 // The worked samples hold of the definitions. How many facts they are.
@@ -106,12 +135,81 @@ fn answer_text(rt: &LibcRuntime, line: &str) -> Result<(), AnyError> {
     Ok(())
 }
 
+fn check<K: Kind>(kind: &K, deep: bool, archive: &[u8], place: usize) -> Result<usize, Refusal> {
+    if deep {
+        is_valid_deep(kind, archive, place)
+    } else {
+        is_valid(kind, archive, place)
+    }
+}
+
+// A value of a named kind in an archive, in a byte order; inline text has the capacity 4.
+fn check_named<E: Endian>(
+    name: &str,
+    deep: bool,
+    archive: &[u8],
+    place: usize,
+) -> Result<usize, Refusal> {
+    match name {
+        "N1" => check(
+            &ScalarKind::<Number<Width1>, E>::new(),
+            deep,
+            archive,
+            place,
+        ),
+        "N2" => check(
+            &ScalarKind::<Number<Width2>, E>::new(),
+            deep,
+            archive,
+            place,
+        ),
+        "N4" => check(
+            &ScalarKind::<Number<Width4>, E>::new(),
+            deep,
+            archive,
+            place,
+        ),
+        "N8" => check(
+            &ScalarKind::<Number<Width8>, E>::new(),
+            deep,
+            archive,
+            place,
+        ),
+        "BO" => check(&ScalarKind::<Truth, E>::new(), deep, archive, place),
+        "CH" => check(&ScalarKind::<Character, E>::new(), deep, archive, place),
+        "TX" => check(&ZeroStr::<E>::new(), deep, archive, place),
+        _ => check(&ZeroString::<E>::new(4)?, deep, archive, place),
+    }
+}
+
+fn answer_check(rt: &LibcRuntime, line: &str, deep: bool) -> Result<(), AnyError> {
+    let archive = bytes(rt.alloc(), line, 4)?;
+    let mut words = line.split_whitespace().skip(1);
+    let (Some(name), Some(order), Some(number)) = (words.next(), words.next(), words.next()) else {
+        println!(rt, "  a check has a kind, an order, a place and bytes")?;
+        return Ok(());
+    };
+    let place = number.parse::<usize>()?;
+    let said = if order == "big" {
+        check_named::<BigEndian>(name, deep, archive.as_slice(), place)
+    } else {
+        check_named::<LittleEndian>(name, deep, archive.as_slice(), place)
+    };
+    match said {
+        Ok(at) => println!(rt, "  stands at {at}")?,
+        Err(refusal) => println!(rt, "  refused: {refusal}")?,
+    }
+    Ok(())
+}
+
 fn answer(rt: &LibcRuntime, line: &str) -> Result<(), AnyError> {
     println!(rt, "{line}")?;
     let mut words = line.split_whitespace();
     match (words.next(), words.next()) {
         (Some("text"), _) => answer_text(rt, line),
         (Some("word"), Some(name)) => answer_word(rt, line, name),
+        (Some("look"), _) => answer_check(rt, line, false),
+        (Some("deep"), _) => answer_check(rt, line, true),
         _ => Ok(()),
     }
 }
