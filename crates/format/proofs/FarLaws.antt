@@ -33,7 +33,7 @@ module _ (m : Meaning) (o : Order) where
   linked-from : (a : List ℕ) (d q : ℕ) → target o a d ≡ good q → Sits m a q → linked m o a d ≡ good q
   linked-from a d q h i = both-good (target o a d) q _ h ∙ sits-good d q (m .size) (m .align) (length a) (i .0) (i .1)
 
-  linked-parts : (a : List ℕ) (d q : ℕ) → linked m o a d ≡ good q → (target o a d ≡ good q) × Sits m a q
+  pub linked-parts : (a : List ℕ) (d q : ℕ) → linked m o a d ≡ good q → (target o a d ≡ good q) × Sits m a q
   linked-parts a d q h =
       let x = both-parts (target o a d) _ q h in
       let y = sits-parts d (x .0) (m .size) (m .align) (length a) q (x .1 .1) in

@@ -4,7 +4,7 @@ use mathlib.Core.List.{List, [], _++_}
 use Prim.Native.Nat.{ℕ, _+_, _-_, _≤_, _<_}
 use native.Mathlib.Omega.{arith}
 use lib.ListN.{length, take, drop, length-drop}
-use Rattle.std.proofs.shelf.Lists.{length-append, length-take-le, drop-drop, append-nil, append-assoc}
+use Rattle.std.proofs.shelf.Lists.{length-append, drop-drop, append-nil, append-assoc}
 use Rattle.format.specs.Places.{part, put}
 use Rattle.format.specs.Orders.{Order, Undoes, number, low-first}
 use Rattle.format.specs.Answers.{good}
@@ -49,12 +49,6 @@ found mark s p q n h e =
           ap (λ z. text-of (first-of z v)) (r .1 .0 ∙ ap good (k .0)) ∙
           (ap (λ z. part 6 (number z) (take (6 + m) v)) (own 2 4 (omega arith)) ∙ (own 6 m (omega arith) ∙ (ap (take m) (drop-drop 6 p s) ∙ ap (λ z. take z (drop (p + 6) s)) count)));
     }
-
-pub slice-length : (s : List ℕ) (p n : ℕ) → p + n ≤ length s → length (take ((p + n) - p) (drop p s)) ≡ n
-slice-length s p n h =
-    let k : (p + n) - p ≡ n = omega arith in
-    let l = length-drop p s in
-    ap (λ z. length (take z (drop p s))) k ∙ length-take-le n (drop p s) (omega arith)
 
 -- a mark, a number of four bytes behind it, and a text behind that
 pub put-sheet : (out m₁ m₂ new mark bs : List ℕ) (to : ℕ) → length mark ≡ 2 → to ≤ length out → m₁ ≡ put out to mark → m₂ ≡ put m₁ (to + 2) (low-first 4 (length bs)) → new ≡ put m₂ (to + 6) bs → new ≡ put out to (text-sheet mark bs)

@@ -1,6 +1,6 @@
-use Prim.Native.Nat.{_+_}
 use native.Mathlib.Omega.{arith}
-use Rattle.texts.proofs.Facts.{stands-within, length-behind, found, slice-length}
+use Rattle.std.proofs.shelf.Lists.{length-take}
+use Rattle.texts.proofs.Facts.{stands-within, length-behind, found}
 use Rattle.texts.proofs.sheet_text.next_text.Needs as need
 
 pub add-start : need.add-start
@@ -23,9 +23,7 @@ returns c =
     let s = c .args .sheet .now in
     let p = c .args .at .now in
     let n = c .take-back-length .result in
-    let k = length-behind s p n (c .pre) (c .take-back-length .ensures .value) in
-    let l = slice-length s (p + 6) n (k .1) in
     record {
-      found = λ mark next h. found mark s p next n h (k .0);
-      small = omega arith;
+      found = λ mark next h. found mark s p next n h (length-behind s p n (c .pre) (c .take-back-length .ensures .value) .0);
+      small = simp length-take (omega arith);
     }

@@ -1,0 +1,6 @@
+mod Fronts
+mod FarFilled
+mod Through
+mod LinkCalls
+mod ArrayCalls
+mod SliceCalls
