@@ -1,4 +1,6 @@
 // The calls on an archive that somebody else may have written: two checks, one step, and copying out, of a value of any kind.
+#![tactic(auto)]
+
 mod check;
 mod copy;
 mod step;

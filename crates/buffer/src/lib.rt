@@ -1,4 +1,6 @@
 // Places in a buffer, and writes into a part of one, so that nothing above meets a raw write. Callers show that the part lies within it.
+#![tactic(auto)]
+
 ghost use Rattle.std.specs.Prelude.{◌≡◌, ◌+◌, ◌<◌, ◌≤◌, length};
 ghost use Rattle.format.specs.Places.{up, put, zeros};
 

@@ -1,4 +1,6 @@
 // The builder of archives: it lays values and bytes one behind another into a buffer that each call is handed.
+#![tactic(auto)]
+
 ghost use Rattle.std.specs.Prelude.{◌≡◌, ◌≤◌, true};
 ghost use Rattle.format.specs.Places.{limit};
 ghost use Rattle.format.specs.Builder.{allowed};

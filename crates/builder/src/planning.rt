@@ -1,7 +1,7 @@
 // Building a value: a plan first, which decides every refusal and writes nothing, then the bytes.
 ghost use Rattle.std.specs.Prelude.{◌≡◌, length, IfOk, Ok};
 ghost use Rattle.format.specs.Answers.{good};
-ghost use Rattle.format.specs.Builder.{build as builds, whole as WholeBy, change, done, step};
+ghost use Rattle.format.specs.Builder.{build as builds, whole as whole_by, change, done, step};
 ghost use Rattle.refusal.specs.Told.{told, told_by};
 ghost use Rattle.kind.specs.Asked.{value_at, Next, Fillable, filled};
 ghost use Rattle.builder.specs.Model.{model, left, planned};
@@ -24,7 +24,7 @@ struct Plan {
 
 // Where the value of a sheet ends that is all of the sheet.
 fn whole<K: Kind>(kind: &K, sheet: &[u8]) -> Result<usize, Refusal>
-    ensures told { told result ≡ WholeBy (K.Kind.meaning kind.now) sheet.now }
+    ensures told { told result ≡ whole_by (K.Kind.meaning kind.now) sheet.now }
     ensures found { IfOk result (Next (K.Kind.meaning kind.now) sheet.now 0) }
 {
     if sheet.len() > LIMIT {

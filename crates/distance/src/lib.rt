@@ -1,4 +1,6 @@
 // Distances: signed 32-bit numbers, counted from their own first byte, that lead to a place of the archive.
+#![tactic(auto)]
+
 ghost use Rattle.std.specs.Prelude.{◌≡◌, ◌+◌, ◌-◌, ◌<◌, ◌≤◌, length, IfOk};
 ghost use Rattle.format.specs.Places.{limit, put};
 ghost use Rattle.format.specs.Answers.{both};

@@ -1,4 +1,6 @@
 // Byte orders, and the numbers of each width that are laid by them.
+#![tactic(auto)]
+
 pub mod order;
 pub mod width;
 

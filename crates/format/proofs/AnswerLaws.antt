@@ -70,6 +70,12 @@ pub both-both : {A B C : Type 0} (x : Answer A) (f : A → B) (g : B → Answer 
 both-both (good a) f g = refl
 both-both (bad e) f g = refl
 
+-- a test and two steps are one, where what follows takes no value of theirs
+pub both-both_unused : {A B C : Type 0} (t : Bool) (f : Fault) (x : Answer A) (g : A → Answer B) (y : Answer C) → unless t (bad f) (both x (λ a. both (g a) (λ _. y))) ≡ both (unless t (bad f) (both x g)) (λ _. y)
+both-both_unused false f x g y = refl
+both-both_unused true f (bad e) g y = refl
+both-both_unused true f (good a) g y = refl
+
 -- a good answer, taken apart
 pub both_parts : {A B : Type 0} (x : Answer A) (f : A → Answer B) (b : B) → both x f ≡ good b → (a : A) × ((x ≡ good a) × (f a ≡ good b))
 both_parts (good a) f b h = (a, (refl, h))

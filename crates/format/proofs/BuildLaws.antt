@@ -9,7 +9,7 @@ use Rattle.format.specs.Items.{first_of}
 use Rattle.format.specs.Meaning.{Meaning, Laid, Placed, Laws}
 use Rattle.format.specs.Builder.{Builder, Call, build, Change, allowed, whole, appended, change, done, step}
 use Rattle.format.proofs.ByteLists.{length-put}
-use Rattle.format.proofs.AnswerLaws.{unless-true, unless-false, unless_parts, both-good, both-bad, both_parts, good-same}
+use Rattle.format.proofs.AnswerLaws.{unless-true, unless-false, unless_parts, both-good, both-bad, both-both_unused, both_parts, good-same}
 use Rattle.format.proofs.PutLaws.{put-put}
 use Rattle.format.proofs.BuilderLaws.{Sound, Fit, Built, build_built, change_fit}
 
@@ -85,6 +85,13 @@ module _ (m : Meaning) (v : List ℕ) (e : ℕ) (h : whole m v ≡ good e) where
   pub whole-value : first_of (m.scan (drop 0 v)) (drop 0 v) ≡ v
   whole-value = ap (λ x. first_of x v) whole_parts.0 ∙ take_all e v whole_parts.1
 
+-- what a build comes to, by the test of the whole sheet
+pub build_whole : (b : Builder) (m : Meaning) (v : List ℕ) → change b (build m v) ≡ both (whole m v) (λ _.
+    let h = up b.used m.align in
+    let x = m.lay v h (stop (h + m.size)) in
+    unless (leb x.end b.room) (fault 4 0) (good (record { answer = h; from = b.used; bytes = zeros (h - b.used) ++ (x.head ++ x.tail); used = x.end; align = max b.align x.widest })))
+build_whole b m v = both-both_unused (leb (length v) limit) (record { number = 1; place = 0; depth = 0 }) (m.scan v) (ended v) _
+
 -- a build by the end and the largest alignment that the layout question tells, its head at h and its tail from t on
 module _
     (b : Builder) (m : Meaning) (v : List ℕ) (e : ℕ) (read : whole m v ≡ good e)
@@ -100,7 +107,7 @@ module _
 
     reached : change b (build m v) ≡ unless (leb laid.end b.room) (fault 4 0) (good (record { answer = h; from = b.used; bytes = zeros (h - b.used) ++ (laid.head ++ laid.tail); used = laid.end; align = max b.align laid.widest }))
     reached =
-        both-good (whole m v) e _ read ∙ ap (λ z. let x = m.lay v z (stop (z + m.size)) in
+        build_whole b m v ∙ both-good (whole m v) e _ read ∙ ap (λ z. let x = m.lay v z (stop (z + m.size)) in
         unless (leb x.end b.room) (fault 4 0) (good (record { answer = z; from = b.used; bytes = zeros (z - b.used) ++ (x.head ++ x.tail); used = x.end; align = max b.align x.widest }))) (sym place)
 
     end-here : laid.end ≡ end

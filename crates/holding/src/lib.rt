@@ -1,4 +1,6 @@
 // What the kinds share that hold others: how many items, a mark before what is held, and one distance to it.
+#![tactic(auto)]
+
 mod count;
 mod far;
 mod front;

@@ -1,4 +1,6 @@
 // The kind: one interface for every kind of value, with its meaning and its laws.
+#![tactic(auto)]
+
 ghost use Rattle.std.specs.Prelude.{◌≡◌, ℕ, ◌+◌, ◌≤◌, List, length, IfOk};
 ghost use Rattle.format.specs.Places.{limit, put};
 ghost use Rattle.format.specs.Answers.{good};

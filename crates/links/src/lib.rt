@@ -1,4 +1,6 @@
 // The kinds that are one distance to what they hold: pointers and far arrays.
+#![tactic(auto)]
+
 mod far_array;
 mod pointer;
 

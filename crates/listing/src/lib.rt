@@ -1,4 +1,6 @@
 // A plate list as the sheet of a slice of texts, a line a text, and the words that it is read back by.
+#![tactic(auto)]
+
 mod error;
 mod split;
 mod texts;

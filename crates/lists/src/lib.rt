@@ -1,4 +1,6 @@
 // The kinds whose head is or counts items: inline arrays and slices.
+#![tactic(auto)]
+
 mod array;
 mod slice;
 

@@ -1,4 +1,6 @@
 // A plate list, line by line and field by field, and the sheets of what its fields say.
+#![tactic(auto)]
+
 mod error;
 mod plate;
 mod split;

@@ -1,4 +1,6 @@
 // plates [FILE]: reads a plate list, a plate number a line, makes the sheet of its texts, reads that back and shows its words.
+#![tactic(auto)]
+
 use anyhow::anyhow;
 use listing::{ListError, lines, list_words, sheet_of_texts};
 use refusal::Refusal;

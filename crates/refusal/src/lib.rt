@@ -1,4 +1,6 @@
 // Why a call refuses: a cause with its number, a place and a depth.
+#![tactic(auto)]
+
 mod cause;
 mod refusal;
 

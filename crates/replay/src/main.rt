@@ -1,4 +1,6 @@
 // replay: reads calls from standard input, a line a call, and prints an answer for each.
+#![tactic(auto)]
+
 mod calls;
 mod catalogue;
 mod desk;

@@ -1,4 +1,6 @@
 // Items side by side: what a kind answers of one, asked of so many in a row. Arrays and slices hold such a row.
+#![tactic(auto)]
+
 mod reading;
 mod sheets;
 

@@ -1,4 +1,6 @@
 // Runs samples: sequences that are text or not, words of sheets, values in archives, and a count of all short texts.
+#![tactic(auto)]
+
 ghost use Rattle.std.specs.Prelude.{◌≡◌};
 ghost use Rattle.format.specs.Samples.{Worked};
 

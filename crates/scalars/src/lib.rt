@@ -1,4 +1,6 @@
 // The kinds of one scalar: numbers, truths and characters, in any byte order.
+#![tactic(auto)]
+
 mod kind;
 mod scalar;
 

@@ -1,4 +1,6 @@
 // The sheet reader: words of a sheet, one at a time, each with its place.
+#![tactic(auto)]
+
 pub mod marks;
 mod parts;
 mod reader;

@@ -1,4 +1,6 @@
 // The kinds of text: with its bytes in the tail, and inline, with its bytes in the head.
+#![tactic(auto)]
+
 mod cut;
 mod part;
 mod sheet_text;

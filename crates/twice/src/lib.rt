@@ -1,4 +1,6 @@
 // A kind of one's own, made without touching the library: a byte that is stored twice.
+#![tactic(auto)]
+
 ghost use Rattle.twice.specs.Twice.{twice as twice_kind};
 ghost use Rattle.twice.specs.Laws.{twice_laws};
 

@@ -1,4 +1,6 @@
 // Text: the recogniser of UTF-8, and the check of a whole text.
+#![tactic(auto)]
+
 mod recogniser;
 mod text;
 

@@ -1,4 +1,6 @@
 // yard: builds an archive of a plate list, checks one, lists it, and copies its sheets out.
+#![tactic(auto)]
+
 mod boat;
 mod commands;
 mod files;

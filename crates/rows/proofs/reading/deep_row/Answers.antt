@@ -6,7 +6,7 @@ use Rattle.rows.proofs.reading.deep_row.Goals as goal
 
 pub returns-in-Some : goal.returns-in-Some
 returns-in-Some g c =
-    ap good c.saturating-mul.ensures ∙ sym (deep_always (g.K.Kind.meaning c.args.item.now) c.in-Some.length c.in-Some.ensures c.args.count c.args.archive.now c.args.at)
+    ap good c.saturating_mul.ensures ∙ sym (deep_always (g.K.Kind.meaning c.args.item.now) c.in-Some.length c.in-Some.ensures c.args.count c.args.archive.now c.args.at)
 
 pub loop-init : goal.loop-init
 loop-init g c = deep_none (g.K.Kind.meaning c.args.item.now) c.args.count c.args.archive.now c.args.at c.requires
@@ -26,7 +26,7 @@ overflow-add-place g c =
 
 pub loop-preserved : goal.loop-preserved
 loop-preserved g c =
-    deep_more c.loop.invariant (g.met.K.Kind.lawful c.args.item.now).keeps c.loop-test.true c.in-ok-deep.field-0 c.saturating-add-total.result c.size-size.result (sym c.in-ok-deep.ensures) c.saturating-add-total.ensures c.size-size.ensures
+    deep_more c.loop.invariant (g.met.K.Kind.lawful c.args.item.now).keeps c.loop-test.true c.in_ok-deep.field-0 c.saturating_add-total.result c.size-size.result (sym c.in_ok-deep.ensures) c.saturating_add-total.ensures c.size-size.ensures
 
 pub returns : goal.returns
 returns g c = sym (deep_all c.loop.invariant c.loop-test.false)

@@ -21,7 +21,7 @@ overflow-add-place g c =
 
 pub loop-preserved : goal.loop-preserved
 loop-preserved g c =
-    shallow-more c.loop.invariant (g.met.K.Kind.lawful c.args.item.now).keeps c.loop-test.true c.in-ok-shallow.field-0 c.size-size.result (sym c.in-ok-shallow.ensures) c.size-size.ensures
+    shallow-more c.loop.invariant (g.met.K.Kind.lawful c.args.item.now).keeps c.loop-test.true c.in_ok-shallow.field-0 c.size-size.result (sym c.in_ok-shallow.ensures) c.size-size.ensures
 
 pub returns : goal.returns
 returns g c = sym (shallow_all c.loop.invariant c.loop-test.false)

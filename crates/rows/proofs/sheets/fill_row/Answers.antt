@@ -12,7 +12,7 @@ loop-init g c =
 
 pub fill-end-requires : goal.fill-end-requires
 fill-end-requires g c =
-    fill_item (fill_left (left-suc c.args.count c.loop.counter c.loop-test.true) c.loop.invariant) (g.met.K.Kind.lawful c.args.item.now) (typed_bytes c.args.sheet.now c.type-inv.sheet)
+    fill_item (fill_left (left-suc c.args.count c.loop.counter c.loop-test.true) c.loop.invariant) (g.met.K.Kind.lawful c.args.item.now) (typed_bytes c.args.sheet.now c.ok.sheet)
 
 pub overflow-add-place : goal.overflow-add-place
 overflow-add-place g c =
@@ -21,7 +21,7 @@ overflow-add-place g c =
 
 pub loop-preserved : goal.loop-preserved
 loop-preserved g c =
-    fill_more (fill_left (left-suc c.args.count c.loop.counter c.loop-test.true) c.loop.invariant) (g.met.K.Kind.lawful c.args.item.now) (typed_bytes c.args.sheet.now c.type-inv.sheet)
+    fill_more (fill_left (left-suc c.args.count c.loop.counter c.loop-test.true) c.loop.invariant) (g.met.K.Kind.lawful c.args.item.now) (typed_bytes c.args.sheet.now c.ok.sheet)
     c.fill-end.new.at c.fill-end.new.out c.fill-end.result c.size-size.result c.fill-end.ensures.next c.fill-end.ensures.bytes c.fill-end.ensures.end c.size-size.ensures c.fill-end.auto.out
 
 pub returns : goal.returns

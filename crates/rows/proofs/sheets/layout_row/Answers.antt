@@ -15,7 +15,7 @@ layout-item-end-requires g c = layout_item (layout_left (left-suc c.args.count c
 
 pub loop-preserved : goal.loop-preserved
 loop-preserved g c =
-    layout_more (layout_left (left-suc c.args.count c.loop.counter c.loop-test.true) c.loop.invariant) (g.met.K.Kind.lawful c.args.item.now).keeps (typed_bytes c.args.sheet.now c.type-inv.sheet)
+    layout_more (layout_left (left-suc c.args.count c.loop.counter c.loop-test.true) c.loop.invariant) (g.met.K.Kind.lawful c.args.item.now).keeps (typed_bytes c.args.sheet.now c.ok.sheet)
     c.layout-item-end.new.at c.layout-item-end.result.0 c.layout-item-end.result.1 c.max-widest.result c.layout-item-end.ensures.foretold c.layout-item-end.ensures.next c.max-widest.ensures
 
 pub returns : goal.returns

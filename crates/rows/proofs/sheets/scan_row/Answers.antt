@@ -16,8 +16,8 @@ returns-in-err-end g c =
 
 pub loop-preserved : goal.loop-preserved
 loop-preserved g c =
-    let e = c.in-ok-end.ensures in
-    scan-left-more c.loop.invariant c.loop-test.true c.in-ok-end.end (sym e.told) e.within.0 e.within.1
+    let e = c.in_ok-end.ensures in
+    scan-left-more c.loop.invariant c.loop-test.true c.in_ok-end.end (sym e.told) e.within.0 e.within.1
 
 pub returns : goal.returns
 returns g c = record { told = sym (scan_all c.loop.invariant c.loop-test.false); within = (c.loop.invariant.onward, c.loop.invariant.within) }
