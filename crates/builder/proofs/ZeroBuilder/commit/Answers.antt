@@ -11,14 +11,14 @@ grow-requires g c =
     let m = g.K.Kind.meaning c.args.kind.now in
     let v = c.args.sheet.now in
     let b = model c.args.self.now in
-    growable m v b (planned b m v c.args.plan) (g.met.K.Kind.lawful c.args.kind.now) (sound c.args.self.now) (typed_bytes v c.type-inv.sheet) c.requires.planned c.args.buffer.now c.requires.own
+    growable m v b (planned b m v c.args.plan) (g.met.K.Kind.lawful c.args.kind.now) (sound c.args.self.now) (typed_bytes v c.type_inv.sheet) c.requires.planned c.args.buffer.now c.requires.own
 
-pub overflow-add-plan : goal.overflow-add-plan
-overflow-add-plan g c =
+pub overflow_add-plan : goal.overflow_add-plan
+overflow_add-plan g c =
     let m = g.K.Kind.meaning c.args.kind.now in
     let v = c.args.sheet.now in
     let b = model c.args.self.now in
-    let small = tail-small m v b (planned b m v c.args.plan) (g.met.K.Kind.lawful c.args.kind.now) (sound c.args.self.now) (typed_bytes v c.type-inv.sheet) c.requires.planned c.args.buffer.now c.requires.own c.size.result c.size.ensures in
+    let small = tail-small m v b (planned b m v c.args.plan) (g.met.K.Kind.lawful c.args.kind.now) (sound c.args.self.now) (typed_bytes v c.type_inv.sheet) c.requires.planned c.args.buffer.now c.requires.own c.size.result c.size.ensures in
     omega arith
 
 pub lay-requires : goal.lay-requires
@@ -26,7 +26,7 @@ lay-requires g c =
     let m = g.K.Kind.meaning c.args.kind.now in
     let v = c.args.sheet.now in
     let b = model c.args.self.now in
-    fillable m v b (planned b m v c.args.plan) (g.met.K.Kind.lawful c.args.kind.now) (sound c.args.self.now) (typed_bytes v c.type-inv.sheet) c.requires.planned c.args.buffer.now c.requires.own c.size.result c.size.ensures c.grow.new.buffer c.grow.auto.buffer
+    fillable m v b (planned b m v c.args.plan) (g.met.K.Kind.lawful c.args.kind.now) (sound c.args.self.now) (typed_bytes v c.type_inv.sheet) c.requires.planned c.args.buffer.now c.requires.own c.size.result c.size.ensures c.grow.new.buffer c.grow.auto.buffer
 
 pub returns : goal.returns
 returns g c =
@@ -34,4 +34,4 @@ returns g c =
     let v = c.args.sheet.now in
     let b = model c.args.self.now in
     ap (λ z. record { answer = good c.args.plan.place; builder = z; buffer = c.lay.new.buffer }) c.grow.ensures.builder ∙
-    committed m v b (planned b m v c.args.plan) (g.met.K.Kind.lawful c.args.kind.now) (sound c.args.self.now) (typed_bytes v c.type-inv.sheet) c.requires.planned c.args.buffer.now c.requires.own c.size.result c.size.ensures c.grow.new.buffer c.grow.auto.buffer c.lay.new.buffer c.grow.ensures.bytes c.lay.ensures
+    committed m v b (planned b m v c.args.plan) (g.met.K.Kind.lawful c.args.kind.now) (sound c.args.self.now) (typed_bytes v c.type_inv.sheet) c.requires.planned c.args.buffer.now c.requires.own c.size.result c.size.ensures c.grow.new.buffer c.grow.auto.buffer c.lay.new.buffer c.grow.ensures.bytes c.lay.ensures

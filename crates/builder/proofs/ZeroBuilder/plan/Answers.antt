@@ -10,19 +10,19 @@ use Rattle.builder.proofs.ZeroBuilder.plan.Goals as goal
 pub next-place-requires : goal.next-place-requires
 next-place-requires g c = kind_power _ (g.met.K.Kind.lawful c.args.kind.now) c.align.ensures
 
-pub returns-in-err-reach : goal.returns-in-err-reach
-returns-in-err-reach g c =
-    let p = err_from_is_err_and c.from-residual-in-err-reach.result c.from-residual-in-err-reach.ensures.1 in
-    rw (p.1, p.2) (sym (build_full (model c.args.self.now) (g.K.Kind.meaning c.args.kind.now) c.args.sheet.now c.in-ok-whole.field-0 (sym c.in-ok-whole.ensures.told) c.next-place.result c.min-tail.result c.layout-end.result.0 c.layout-end.result.1
-    (c.next-place.ensures.place ∙ ap (up c.args.self.now.used) c.align.ensures) (c.min-tail.ensures ∙ ap (λ z. stop (c.next-place.result + z)) c.size.ensures) c.layout-end.ensures.foretold _ (sym c.in-err-reach.ensures.told)))
+pub returns-in_err-reach : goal.returns-in_err-reach
+returns-in_err-reach g c =
+    let p = err_from_is_err_and c.from_residual-in_err-reach.result c.from_residual-in_err-reach.ensures.1 in
+    rw (p.1, p.2) (sym (build_full (model c.args.self.now) (g.K.Kind.meaning c.args.kind.now) c.args.sheet.now c.in_ok-whole.field-0 (sym c.in_ok-whole.ensures.told) c.next-place.result c.min-tail.result c.layout-end.result.0 c.layout-end.result.1
+    (c.next-place.ensures.place ∙ ap (up c.args.self.now.used) c.align.ensures) (c.min-tail.ensures ∙ ap (λ z. stop (c.next-place.result + z)) c.size.ensures) c.layout-end.ensures.foretold _ (sym c.in_err-reach.ensures.told)))
 
 pub widened-align-requires : goal.widened-align-requires
 widened-align-requires g c =
     let k = (g.met.K.Kind.lawful c.args.kind.now).keeps in
-    let found = value-belongs (g.K.Kind.meaning c.args.kind.now) k c.args.sheet.now 0 (typed_bytes c.args.sheet.now c.type-inv.sheet) c.in-ok-whole.field-0 c.in-ok-whole.ensures.found in
+    let found = value-belongs (g.K.Kind.meaning c.args.kind.now) k c.args.sheet.now 0 (typed_bytes c.args.sheet.now c.type_inv.sheet) c.in_ok-whole.field-0 c.in_ok-whole.ensures.found in
     subst Power (c.layout-end.ensures.foretold 0).1 (power _ (k.widest_power _ 0 c.min-tail.result found).0)
 
 pub returns : goal.returns
 returns g c =
-    sym (build-fits (model c.args.self.now) (g.K.Kind.meaning c.args.kind.now) c.args.sheet.now c.in-ok-whole.field-0 (sym c.in-ok-whole.ensures.told) c.next-place.result c.min-tail.result c.layout-end.result.0 c.layout-end.result.1
-    (c.next-place.ensures.place ∙ ap (up c.args.self.now.used) c.align.ensures) (c.min-tail.ensures ∙ ap (λ z. stop (c.next-place.result + z)) c.size.ensures) c.layout-end.ensures.foretold c.widened-align.result c.in-ok-reach.ensures.within c.widened-align.ensures.most)
+    sym (build-fits (model c.args.self.now) (g.K.Kind.meaning c.args.kind.now) c.args.sheet.now c.in_ok-whole.field-0 (sym c.in_ok-whole.ensures.told) c.next-place.result c.min-tail.result c.layout-end.result.0 c.layout-end.result.1
+    (c.next-place.ensures.place ∙ ap (up c.args.self.now.used) c.align.ensures) (c.min-tail.ensures ∙ ap (λ z. stop (c.next-place.result + z)) c.size.ensures) c.layout-end.ensures.foretold c.widened-align.result c.in_ok-reach.ensures.within c.widened-align.ensures.most)

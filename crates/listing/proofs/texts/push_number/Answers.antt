@@ -5,6 +5,6 @@ use Rattle.listing.proofs.texts.push_number.Goals as goal
 
 pub returns : goal.returns
 returns c =
-    let was = vec_items c.extend-from-slice.new.self in
-    let r = c.extend-from-slice-2.result in
-    both_pushed r (vec_items c.args.sheet.now) was _ c.args.mark.now (low_first 4 c.args.number) c.in-ok-extend-from-slice.ensures.items (c.extend-from-slice-2.ensures.items ∙ ap (λ bs. cond (is_ok r) (was ++ bs) was) c.from-native-u32.ensures)
+    let was = vec_items c.extend_from_slice.new.self in
+    let r = c.extend_from_slice-2.result in
+    both_pushed r (vec_items c.args.sheet.now) was _ c.args.mark.now (low_first 4 c.args.number) c.in_ok-extend_from_slice.ensures.items (c.extend_from_slice-2.ensures.items ∙ ap (λ bs. cond (is_ok r) (was ++ bs) was) c.from_native_u32.ensures)

@@ -9,45 +9,45 @@ use Rattle.listing.proofs.BackLaws.{reads_back}
 use Rattle.listing.proofs.KindLaws.{scans_as_kind}
 use Rattle.listing.proofs.words.list_words.Goals as goal
 
-pub returns-in-err-slice : goal.returns-in-err-slice
-returns-in-err-slice c = record {
-  told = tells_error _ _ _ (Refused c.in-err-slice.field-0.0) c.from-residual.ensures.1 (slice-bad c.args.sheet.now _ c.in-err-slice.ensures);
+pub returns-in_err-slice : goal.returns-in_err-slice
+returns-in_err-slice c = record {
+  told = tells_error _ _ _ (Refused c.in_err-slice.field-0.0) c.from_residual.ensures.1 (slice-bad c.args.sheet.now _ c.in_err-slice.ensures);
   back = reads_back c.args.sheet.now;
   kind = scans_as_kind c.args.sheet.now;
 }
 
 pub loop-init : goal.loop-init
 loop-init c =
-    rest_first c.args.sheet.now (read_of c.in-ok-slice.slice) _ _ c.in-ok-slice.ensures (ap (map word_of) c.new-words.ensures.items) (sub-zero c.followers-end.result ∙ c.followers-end.ensures)
+    rest_first c.args.sheet.now (read_of c.in_ok-slice.slice) _ _ c.in_ok-slice.ensures (ap (map word_of) c.new-words.ensures.items) (sub-zero c.followers-end.result ∙ c.followers-end.ensures)
 
-pub returns-in-err-text : goal.returns-in-err-text
-returns-in-err-text c = record {
-  told = tells_error _ _ _ (Refused c.in-err-text.field-0.0) c.from-residual-in-err-text.ensures.1 (text-bad c.args.sheet.now _ _ c.loop.at c.loop.invariant (c.followers-end.result - (c.loop.counter + 1)) (omega arith) _ c.in-err-text.ensures);
+pub returns-in_err-text : goal.returns-in_err-text
+returns-in_err-text c = record {
+  told = tells_error _ _ _ (Refused c.in_err-text.field-0.0) c.from_residual-in_err-text.ensures.1 (text-bad c.args.sheet.now _ _ c.loop.at c.loop.invariant (c.followers-end.result - (c.loop.counter + 1)) (omega arith) _ c.in_err-text.ensures);
   back = reads_back c.args.sheet.now;
   kind = scans_as_kind c.args.sheet.now;
 }
 
-pub returns-in-err-push : goal.returns-in-err-push
-returns-in-err-push c = record {
-  told = tells_error _ _ _ Memory c.from-residual-in-err-push.ensures.1 tt;
+pub returns-in_err-push : goal.returns-in_err-push
+returns-in_err-push c = record {
+  told = tells_error _ _ _ Memory c.from_residual-in_err-push.ensures.1 tt;
   back = reads_back c.args.sheet.now;
   kind = scans_as_kind c.args.sheet.now;
 }
 
 pub loop-preserved : goal.loop-preserved
 loop-preserved c =
-    rest_more c.args.sheet.now _ _ c.loop.at c.loop.invariant (c.followers-end.result - (c.loop.counter + 1)) (omega arith) (read_of c.in-ok-text.text) _ c.in-ok-text.ensures (ap (map word_of) c.in-ok-push.ensures.items ∙ map_push word_of _ _)
+    rest_more c.args.sheet.now _ _ c.loop.at c.loop.invariant (c.followers-end.result - (c.loop.counter + 1)) (omega arith) (read_of c.in_ok-text.text) _ c.in_ok-text.ensures (ap (map word_of) c.in_ok-push.ensures.items ∙ map_push word_of _ _)
 
-pub returns-in-err-ended : goal.returns-in-err-ended
-returns-in-err-ended c = record {
-  told = tells_error _ _ _ (Refused c.in-err-ended.field-0.0) c.from-residual-in-err-ended.ensures.1 (end-bad c.args.sheet.now _ _ c.loop.at c.loop.invariant (omega arith) _ c.in-err-ended.ensures);
+pub returns-in_err-ended : goal.returns-in_err-ended
+returns-in_err-ended c = record {
+  told = tells_error _ _ _ (Refused c.in_err-ended.field-0.0) c.from_residual-in_err-ended.ensures.1 (end-bad c.args.sheet.now _ _ c.loop.at c.loop.invariant (omega arith) _ c.in_err-ended.ensures);
   back = reads_back c.args.sheet.now;
   kind = scans_as_kind c.args.sheet.now;
 }
 
 pub returns : goal.returns
 returns c = record {
-  told = rest_none c.args.sheet.now _ _ c.loop.at c.loop.invariant (omega arith) _ c.in-ok-ended.ensures;
+  told = rest_none c.args.sheet.now _ _ c.loop.at c.loop.invariant (omega arith) _ c.in_ok-ended.ensures;
   back = reads_back c.args.sheet.now;
   kind = scans_as_kind c.args.sheet.now;
 }

@@ -5,6 +5,6 @@ use Rattle.plate_lists.proofs.texts.push_count.Goals as goal
 
 pub returns : goal.returns
 returns c =
-    let was = vec_items c.extend-from-slice.new.self in
+    let was = vec_items c.extend_from_slice.new.self in
     let same = ap (λ n. leb (n + (6 + c.args.count)) limit) (c.len.ensures ∙ c.args.sheet.now.ok.0) in
-    counted_pushed (vec_items c.args.sheet.now) c.args.mark.now c.args.count was _ (c.if-not-has-room.ensures ∙ same) c.in-ok-extend-from-slice.ensures.items (c.in-ok-extend-from-slice-2.ensures.items ∙ ap (λ bs. was ++ bs) c.from-native-u32.ensures)
+    counted_pushed (vec_items c.args.sheet.now) c.args.mark.now c.args.count was _ (c.if-not-has_room.ensures ∙ same) c.in_ok-extend_from_slice.ensures.items (c.in_ok-extend_from_slice-2.ensures.items ∙ ap (λ bs. was ++ bs) c.from_native_u32.ensures)

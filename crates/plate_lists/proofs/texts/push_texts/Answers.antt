@@ -4,23 +4,23 @@ use Rattle.plate_lists.proofs.ToldLaws.{tells_error, tells_on}
 use Rattle.plate_lists.proofs.WrittenLaws.{text-some, slice_over, row-none, row_more, row_over, row_all}
 use Rattle.plate_lists.proofs.texts.push_texts.Goals as goal
 
-pub returns-in-err-push-count : goal.returns-in-err-push-count
-returns-in-err-push-count c =
-    tells_error _ _ _ c.in-err-push-count.field-0.0 c.from-residual.ensures.1 (tells_on c.in-err-push-count.field-0.0 _ _ (slice_over (text_sheet text_mark) text-some (λ x. x.now) c.args.texts.now (vec_items c.args.sheet.now)) c.in-err-push-count.ensures)
+pub returns-in_err-push_count : goal.returns-in_err-push_count
+returns-in_err-push_count c =
+    tells_error _ _ _ c.in_err-push_count.field-0.0 c.from_residual.ensures.1 (tells_on c.in_err-push_count.field-0.0 _ _ (slice_over (text_sheet text_mark) text-some (λ x. x.now) c.args.texts.now (vec_items c.args.sheet.now)) c.in_err-push_count.ensures)
 
 pub loop-text-init : goal.loop-text-init
-loop-text-init c = row-none (text_sheet text_mark) text-some (λ x. x.now) c.args.texts.now (vec_items c.args.sheet.now) _ c.in-ok-push-count.ensures
+loop-text-init c = row-none (text_sheet text_mark) text-some (λ x. x.now) c.args.texts.now (vec_items c.args.sheet.now) _ c.in_ok-push_count.ensures
 
-pub push-text-requires : goal.push-text-requires
-push-text-requires c = c.loop-text.invariant.room
+pub push_text-requires : goal.push_text-requires
+push_text-requires c = c.loop-text.invariant.room
 
-pub returns-in-err-push-text : goal.returns-in-err-push-text
-returns-in-err-push-text c =
-    tells_error _ _ _ c.in-err-push-text.field-0.0 c.from-residual-in-err-push-text.ensures.1 (tells_on c.in-err-push-text.field-0.0 _ _ (row_over (text_sheet text_mark) text-some (λ x. x.now) c.args.texts.now (vec_items c.args.sheet.now) _ c.in-ok-push-count.ensures _ c.loop-text.text-index c.loop-text.invariant _ c.loop-text-test.true) c.in-err-push-text.ensures)
+pub returns-in_err-push_text : goal.returns-in_err-push_text
+returns-in_err-push_text c =
+    tells_error _ _ _ c.in_err-push_text.field-0.0 c.from_residual-in_err-push_text.ensures.1 (tells_on c.in_err-push_text.field-0.0 _ _ (row_over (text_sheet text_mark) text-some (λ x. x.now) c.args.texts.now (vec_items c.args.sheet.now) _ c.in_ok-push_count.ensures _ c.loop-text.text-index c.loop-text.invariant _ c.loop-text-test.true) c.in_err-push_text.ensures)
 
 pub loop-text-preserved : goal.loop-text-preserved
 loop-text-preserved c =
-    row_more (text_sheet text_mark) text-some (λ x. x.now) c.args.texts.now (vec_items c.args.sheet.now) _ c.in-ok-push-count.ensures _ c.loop-text.text-index c.loop-text.invariant _ c.loop-text-test.true _ c.in-ok-push-text.ensures
+    row_more (text_sheet text_mark) text-some (λ x. x.now) c.args.texts.now (vec_items c.args.sheet.now) _ c.in_ok-push_count.ensures _ c.loop-text.text-index c.loop-text.invariant _ c.loop-text-test.true _ c.in_ok-push_text.ensures
 
 pub returns : goal.returns
-returns c = row_all (text_sheet text_mark) text-some (λ x. x.now) c.args.texts.now (vec_items c.args.sheet.now) _ c.in-ok-push-count.ensures _ c.loop-text.text-index c.loop-text.invariant c.loop-text-test.false
+returns c = row_all (text_sheet text_mark) text-some (λ x. x.now) c.args.texts.now (vec_items c.args.sheet.now) _ c.in_ok-push_count.ensures _ c.loop-text.text-index c.loop-text.invariant c.loop-text-test.false

@@ -4,10 +4,10 @@ use Rattle.plate_lists.specs.Told.{held}
 use Rattle.plate_lists.proofs.ToldLaws.{tells_error, tells_on}
 use Rattle.plate_lists.proofs.texts.sheet_of_texts.Goals as goal
 
-pub returns-in-err-push-texts : goal.returns-in-err-push-texts
-returns-in-err-push-texts c =
+pub returns-in_err-push_texts : goal.returns-in_err-push_texts
+returns-in_err-push_texts c =
     let none = ap (λ bs. limited (bs ++ texts_sheet (held c.args.texts.now))) c.new-sheet.ensures.items in
-    tells_error vec_items _ _ c.in-err-push-texts.field-0.0 c.from-residual.ensures.1 (tells_on c.in-err-push-texts.field-0.0 _ _ (λ f k. k ∙ none) c.in-err-push-texts.ensures)
+    tells_error vec_items _ _ c.in_err-push_texts.field-0.0 c.from_residual.ensures.1 (tells_on c.in_err-push_texts.field-0.0 _ _ (λ f k. k ∙ none) c.in_err-push_texts.ensures)
 
 pub returns : goal.returns
-returns c = c.in-ok-push-texts.ensures ∙ ap (λ bs. limited (bs ++ texts_sheet (held c.args.texts.now))) c.new-sheet.ensures.items
+returns c = c.in_ok-push_texts.ensures ∙ ap (λ bs. limited (bs ++ texts_sheet (held c.args.texts.now))) c.new-sheet.ensures.items

@@ -9,8 +9,8 @@ loop-init g c = copy_none (g.K.Kind.meaning c.args.item.now) c.args.count c.args
 pub copy-end-requires : goal.copy-end-requires
 copy-end-requires g c = copy_item c.loop.invariant c.loop-test.true (g.met.K.Kind.lawful c.args.item.now).keeps c.requires
 
-pub overflow-add-place : goal.overflow-add-place
-overflow-add-place g c =
+pub overflow_add-place : goal.overflow_add-place
+overflow_add-place g c =
     let s = head-seated (g.met.K.Kind.lawful c.args.item.now).keeps c.loop.invariant.head c.args.count c.args.archive.now c.requires.seated c.loop-test.true in
     omega arith
 

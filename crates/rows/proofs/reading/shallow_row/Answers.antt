@@ -9,13 +9,13 @@ loop-init g c = shallow-none (g.K.Kind.meaning c.args.item.now) c.args.count c.a
 pub shallow-requires : goal.shallow-requires
 shallow-requires g c = head-seated (g.met.K.Kind.lawful c.args.item.now).keeps c.loop.invariant.head c.args.count c.args.archive.now c.requires c.loop-test.true
 
-pub returns-in-err-shallow : goal.returns-in-err-shallow
-returns-in-err-shallow g c =
-    let p = err_from_is_err_and c.from-residual.result c.from-residual.ensures.1 in
-    rw (p.1, p.2) (sym (shallow-bad c.loop.invariant c.loop-test.true _ (sym c.in-err-shallow.ensures)))
+pub returns-in_err-shallow : goal.returns-in_err-shallow
+returns-in_err-shallow g c =
+    let p = err_from_is_err_and c.from_residual.result c.from_residual.ensures.1 in
+    rw (p.1, p.2) (sym (shallow-bad c.loop.invariant c.loop-test.true _ (sym c.in_err-shallow.ensures)))
 
-pub overflow-add-place : goal.overflow-add-place
-overflow-add-place g c =
+pub overflow_add-place : goal.overflow_add-place
+overflow_add-place g c =
     let s = head-seated (g.met.K.Kind.lawful c.args.item.now).keeps c.loop.invariant.head c.args.count c.args.archive.now c.requires c.loop-test.true in
     omega arith
 

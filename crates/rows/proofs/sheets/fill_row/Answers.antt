@@ -12,16 +12,16 @@ loop-init g c =
 
 pub fill-end-requires : goal.fill-end-requires
 fill-end-requires g c =
-    fill_item (fill_left (left-suc c.args.count c.loop.counter c.loop-test.true) c.loop.invariant) (g.met.K.Kind.lawful c.args.item.now) (typed_bytes c.args.sheet.now c.ok.sheet)
+    fill_item (fill_left (left-suc c.args.count c.loop.counter c.loop-test.true) c.loop.invariant) (g.met.K.Kind.lawful c.args.item.now) (typed_bytes c.args.sheet.now c.type_inv.sheet)
 
-pub overflow-add-place : goal.overflow-add-place
-overflow-add-place g c =
-    let f = fill_item (fill_left (left-suc c.args.count c.loop.counter c.loop-test.true) c.loop.invariant) (g.met.K.Kind.lawful c.args.item.now) (typed_bytes c.args.sheet.now c.type-inv.sheet) in
+pub overflow_add-place : goal.overflow_add-place
+overflow_add-place g c =
+    let f = fill_item (fill_left (left-suc c.args.count c.loop.counter c.loop-test.true) c.loop.invariant) (g.met.K.Kind.lawful c.args.item.now) (typed_bytes c.args.sheet.now c.type_inv.sheet) in
     omega (arith, f.behind, f.starts, f.capped)
 
 pub loop-preserved : goal.loop-preserved
 loop-preserved g c =
-    fill_more (fill_left (left-suc c.args.count c.loop.counter c.loop-test.true) c.loop.invariant) (g.met.K.Kind.lawful c.args.item.now) (typed_bytes c.args.sheet.now c.ok.sheet)
+    fill_more (fill_left (left-suc c.args.count c.loop.counter c.loop-test.true) c.loop.invariant) (g.met.K.Kind.lawful c.args.item.now) (typed_bytes c.args.sheet.now c.type_inv.sheet)
     c.fill-end.new.at c.fill-end.new.out c.fill-end.result c.size-size.result c.fill-end.ensures.next c.fill-end.ensures.bytes c.fill-end.ensures.end c.size-size.ensures c.fill-end.auto.out
 
 pub returns : goal.returns

@@ -10,13 +10,13 @@ loop-init g c =
     layout_left (sym (sub-zero c.args.count))
     (layout_none (g.K.Kind.meaning c.args.item.now) c.args.count c.args.sheet.now c.args.at.now c.args.tail c.align-widest.result c.requires c.align-widest.ensures)
 
-pub layout-item-end-requires : goal.layout-item-end-requires
-layout-item-end-requires g c = layout_item (layout_left (left-suc c.args.count c.loop.counter c.loop-test.true) c.loop.invariant)
+pub layout-item_end-requires : goal.layout-item_end-requires
+layout-item_end-requires g c = layout_item (layout_left (left-suc c.args.count c.loop.counter c.loop-test.true) c.loop.invariant)
 
 pub loop-preserved : goal.loop-preserved
 loop-preserved g c =
-    layout_more (layout_left (left-suc c.args.count c.loop.counter c.loop-test.true) c.loop.invariant) (g.met.K.Kind.lawful c.args.item.now).keeps (typed_bytes c.args.sheet.now c.ok.sheet)
-    c.layout-item-end.new.at c.layout-item-end.result.0 c.layout-item-end.result.1 c.max-widest.result c.layout-item-end.ensures.foretold c.layout-item-end.ensures.next c.max-widest.ensures
+    layout_more (layout_left (left-suc c.args.count c.loop.counter c.loop-test.true) c.loop.invariant) (g.met.K.Kind.lawful c.args.item.now).keeps (typed_bytes c.args.sheet.now c.type_inv.sheet)
+    c.layout-item_end.new.at c.layout-item_end.result.0 c.layout-item_end.result.1 c.max-widest.result c.layout-item_end.ensures.foretold c.layout-item_end.ensures.next c.max-widest.ensures
 
 pub returns : goal.returns
 returns g c =

@@ -9,10 +9,10 @@ loop-init g c = scan-none (g.K.Kind.meaning c.args.item.now) c.args.count c.args
 pub scan-requires : goal.scan-requires
 scan-requires g c = c.loop.invariant.within
 
-pub returns-in-err-end : goal.returns-in-err-end
-returns-in-err-end g c =
-    let p = err_from_is_err_and c.from-residual.result c.from-residual.ensures.1 in
-    rw (p.1, p.2) (record { told = sym (scan-left-bad c.loop.invariant c.loop-test.true _ (sym c.in-err-end.ensures.told)); within = tt })
+pub returns-in_err-end : goal.returns-in_err-end
+returns-in_err-end g c =
+    let p = err_from_is_err_and c.from_residual.result c.from_residual.ensures.1 in
+    rw (p.1, p.2) (record { told = sym (scan-left-bad c.loop.invariant c.loop-test.true _ (sym c.in_err-end.ensures.told)); within = tt })
 
 pub loop-preserved : goal.loop-preserved
 loop-preserved g c =

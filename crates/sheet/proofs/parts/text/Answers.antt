@@ -19,22 +19,22 @@ slice-length s a n h = let l = length-drop a s in ap length (slice_is s a n) ∙
 
 pub returns-then-sheet-start : goal.returns-then-sheet-start
 returns-then-sheet-start c = record {
-  told = ap refused c.at.ensures ∙ sym (text_read-cut c.args.mark.now c.args.sheet.now c.args.at c.in-ok-length.field-0 (sym c.in-ok-length.ensures.told) c.if-sheet-start.true);
+  told = ap refused c.at.ensures ∙ sym (text_read-cut c.args.mark.now c.args.sheet.now c.args.at c.in_ok-length.field-0 (sym c.in_ok-length.ensures.told) c.if-sheet-start.true);
   within = tt;
 }
 
-pub returns-then-not-is-text : goal.returns-then-not-is-text
-returns-then-not-is-text c = record {
-  told = ap refused c.at-then-not-is-text.ensures ∙ sym (text_read_wrong c.args.mark.now c.args.sheet.now c.args.at c.in-ok-length.field-0 (sym c.in-ok-length.ensures.told) c.if-sheet-start.false (sliced_test c.args.sheet.now (c.args.at + 6) c.in-ok-length.field-0 c.is_text.result _ c.is_text.ensures.value c.if-not-is-text.true));
+pub returns-then-not-is_text : goal.returns-then-not-is_text
+returns-then-not-is_text c = record {
+  told = ap refused c.at-then-not-is_text.ensures ∙ sym (text_read_wrong c.args.mark.now c.args.sheet.now c.args.at c.in_ok-length.field-0 (sym c.in_ok-length.ensures.told) c.if-sheet-start.false (sliced_test c.args.sheet.now (c.args.at + 6) c.in_ok-length.field-0 c.is_text.result _ c.is_text.ensures.value c.if-not-is_text.true));
   within = tt;
 }
 
 pub returns : goal.returns
 returns c =
     let s = c.args.sheet.now in
-    let n = c.in-ok-length.field-0 in
-    let k : c.args.at + 6 + n ≤ length s = omega (arith, c.in-ok-length.ensures.within, c.if-sheet-start.false) in
+    let n = c.in_ok-length.field-0 in
+    let k : c.args.at + 6 + n ≤ length s = omega (arith, c.in_ok-length.ensures.within, c.if-sheet-start.false) in
     record {
-      told = ap good (slice_is s (c.args.at + 6) n) ∙ sym (text_read-good c.args.mark.now s c.args.at n (sym c.in-ok-length.ensures.told) c.if-sheet-start.false (sliced_test s (c.args.at + 6) n c.is_text.result _ c.is_text.ensures.value c.if-not-is-text.false));
+      told = ap good (slice_is s (c.args.at + 6) n) ∙ sym (text_read-good c.args.mark.now s c.args.at n (sym c.in_ok-length.ensures.told) c.if-sheet-start.false (sliced_test s (c.args.at + 6) n c.is_text.result _ c.is_text.ensures.value c.if-not-is_text.false));
       within = omega (arith, slice-length s (c.args.at + 6) n k);
     }

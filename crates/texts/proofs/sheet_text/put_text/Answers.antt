@@ -6,6 +6,6 @@ pub returns : goal.returns
 returns c =
     let l = sheet-length c.args.mark.now c.args.bytes.now c.told-mark in
     record {
-      bytes = put-sheet c.args.out.now c.put-at.new.out c.lay.new.out c.put-at-2.new.out c.args.mark.now c.args.bytes.now c.args.to c.told-mark (omega arith) c.put-at.ensures c.lay.ensures.bytes c.put-at-2.ensures;
+      bytes = put-sheet c.args.out.now c.put_at.new.out c.lay.new.out c.put_at-2.new.out c.args.mark.now c.args.bytes.now c.args.to c.told-mark (omega arith) c.put_at.ensures c.lay.ensures.bytes c.put_at-2.ensures;
       end = omega arith;
     }

@@ -20,8 +20,8 @@ laid b mid new q h e = let k : b ≡ b % 256 = omega arith in e ∙ ap (λ z. pu
 pub returns : goal.returns
 returns c s h =
     let a = c.args.archive.now in
-    let byte : get_or a c.args.at 0 < 256 = omega (arith, c.type-inv.archive c.args.at) in
+    let byte : get_or a c.args.at 0 < 256 = omega (arith, c.type_inv.archive c.args.at) in
     let room : c.args.to ≤ length c.args.out.now = omega (arith, c.requires.room) in
     let is = read a c.args.at s h in
-    let r = copied twice_mark twice_mark c.args.out.now c.put-at.new.out c.put-at-2.new.out c.args.to 1 (get_or a c.args.at 0) s refl refl c.put-at.ensures (laid (get_or a c.args.at 0) c.put-at.new.out c.put-at-2.new.out (c.args.to + 2) byte c.put-at-2.ensures) is room in
+    let r = copied twice_mark twice_mark c.args.out.now c.put_at.new.out c.put_at-2.new.out c.args.to 1 (get_or a c.args.at 0) s refl refl c.put_at.ensures (laid (get_or a c.args.at 0) c.put_at.new.out c.put_at-2.new.out (c.args.to + 2) byte c.put_at-2.ensures) is room in
     (r.0, omega (arith, r.1))

@@ -17,14 +17,14 @@ one_byte s q h = ap (λ z. number (take 1 z)) (drop_more s q 0 h) ∙ (let e : g
 head_alone : (n m : ℕ) (out new : List ℕ) (h t : ℕ) → n ≡ m → new ≡ put out h (n ∷ n ∷ []) → new ≡ put (put out h (m ∷ m ∷ [])) t []
 head_alone n m out new h t e f = f ∙ (ap (λ z. put out h (z ∷ z ∷ [])) e ∙ sym (put_nil (put out h (m ∷ m ∷ [])) t))
 
-pub overflow-add-byte : goal.overflow-add-byte
-overflow-add-byte c = let f = found twice_mark 1 any c.args.sheet.now c.args.at.now c.requires.next c.requires.found in omega arith
+pub overflow_add-byte : goal.overflow_add-byte
+overflow_add-byte c = let f = found twice_mark 1 any c.args.sheet.now c.args.at.now c.requires.next c.requires.found in omega arith
 
 pub bounds-sheet-at : goal.bounds-sheet-at
 bounds-sheet-at c = let f = found twice_mark 1 any c.args.sheet.now c.args.at.now c.requires.next c.requires.found in omega arith
 
-pub overflow-add-at : goal.overflow-add-at
-overflow-add-at c = let f = found twice_mark 1 any c.args.sheet.now c.args.at.now c.requires.next c.requires.found in omega arith
+pub overflow_add-at : goal.overflow_add-at
+overflow_add-at c = let f = found twice_mark 1 any c.args.sheet.now c.args.at.now c.requires.next c.requires.found in omega arith
 
 pub returns : goal.returns
 returns c =
@@ -32,7 +32,7 @@ returns c =
     let p = c.args.at.now in
     let f = found twice_mark 1 any s p c.requires.next c.requires.found in
     record {
-      bytes = head_alone (get_or s (p + 2) 0) _ c.args.out.now c.put-at.new.out c.args.head c.args.tail (sym (f.value ∙ one_byte s (p + 2) (omega arith))) c.put-at.ensures;
+      bytes = head_alone (get_or s (p + 2) 0) _ c.args.out.now c.put_at.new.out c.args.head c.args.tail (sym (f.value ∙ one_byte s (p + 2) (omega arith))) c.put_at.ensures;
       end = refl;
       next = c.requires.found ∙ ap good f.next;
     }

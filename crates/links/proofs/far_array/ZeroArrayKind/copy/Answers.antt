@@ -7,12 +7,12 @@ use Rattle.links.proofs.far_array.ZeroArrayKind.copy.Goals as goal
 pub led-place-requires : goal.led-place-requires
 led-place-requires g c = let r = reads (row (g.K.Kind.meaning c.args.self.now.item) c.args.self.now.count) g.E.Endian.order far_array_mark c.args.archive.now c.args.at c.requires.sheet c.requires.read in (c.requires.seated.within, (c.requires.seated.capped, (r.place, r.led)))
 
-pub copy-row-requires : goal.copy-row-requires
-copy-row-requires g c =
+pub copy_row-requires : goal.copy_row-requires
+copy_row-requires g c =
     let r = reads (row (g.K.Kind.meaning c.args.self.now.item) c.args.self.now.count) g.E.Endian.order far_array_mark c.args.archive.now c.args.at c.requires.sheet c.requires.read in
-    led_copyable r c.led-place.result c.led-place.ensures c.put-at.new.out c.args.to _ c.requires.seated.capped (omega (arith, c.requires.room, c.put-at.auto.out)) refl
+    led_copyable r c.led-place.result c.led-place.ensures c.put_at.new.out c.args.to _ c.requires.seated.capped (omega (arith, c.requires.room, c.put_at.auto.out)) refl
 
 pub returns : goal.returns
 returns g c s h =
     let r = reads (row (g.K.Kind.meaning c.args.self.now.item) c.args.self.now.count) g.E.Endian.order far_array_mark c.args.archive.now c.args.at s h in
-    led_copied r c.led-place.result c.led-place.ensures c.args.out.now c.put-at.new.out c.copy-row.new.out c.args.to _ c.copy-row.result (omega (arith, c.requires.room)) c.put-at.ensures refl c.copy-row.ensures
+    led_copied r c.led-place.result c.led-place.ensures c.args.out.now c.put_at.new.out c.copy_row.new.out c.args.to _ c.copy_row.result (omega (arith, c.requires.room)) c.put_at.ensures refl c.copy_row.ensures

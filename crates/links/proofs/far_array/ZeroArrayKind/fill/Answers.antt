@@ -7,24 +7,24 @@ use Rattle.rows.proofs.Values.{typed_bytes}
 use Rattle.links.proofs.LinkCalls.{link-room, link-next, link_reach, link-within, link_fillable, link-filled}
 use Rattle.links.proofs.far_array.ZeroArrayKind.fill.Goals as goal
 
-pub overflow-add-at : goal.overflow-add-at
-overflow-add-at g c = let r = link-room far_array_mark (row (g.K.Kind.meaning c.args.self.now.item) c.args.self.now.count) g.E.Endian.order (row_keeps (g.K.Kind.meaning c.args.self.now.item) c.args.self.now.count (g.met.K.Kind.lawful c.args.self.now.item)) c.args.sheet.now (typed_bytes c.args.sheet.now c.type-inv.sheet) c.args.at.now c.requires.next c.requires.found in omega arith
+pub overflow_add-at : goal.overflow_add-at
+overflow_add-at g c = let r = link-room far_array_mark (row (g.K.Kind.meaning c.args.self.now.item) c.args.self.now.count) g.E.Endian.order (row_keeps (g.K.Kind.meaning c.args.self.now.item) c.args.self.now.count (g.met.K.Kind.lawful c.args.self.now.item)) c.args.sheet.now (typed_bytes c.args.sheet.now c.type_inv.sheet) c.args.at.now c.requires.next c.requires.found in omega arith
 
 pub reach-place-requires : goal.reach-place-requires
-reach-place-requires g c = link_reach far_array_mark (row (g.K.Kind.meaning c.args.self.now.item) c.args.self.now.count) g.E.Endian.order (row_keeps (g.K.Kind.meaning c.args.self.now.item) c.args.self.now.count (g.met.K.Kind.lawful c.args.self.now.item)) c.args.sheet.now (typed_bytes c.args.sheet.now c.type-inv.sheet) c.args.at.now c.args.out.now c.args.head c.args.tail c.requires c.align.result c.align.ensures
+reach-place-requires g c = link_reach far_array_mark (row (g.K.Kind.meaning c.args.self.now.item) c.args.self.now.count) g.E.Endian.order (row_keeps (g.K.Kind.meaning c.args.self.now.item) c.args.self.now.count (g.met.K.Kind.lawful c.args.self.now.item)) c.args.sheet.now (typed_bytes c.args.sheet.now c.type_inv.sheet) c.args.at.now c.args.out.now c.args.head c.args.tail c.requires c.align.result c.align.ensures
 
-pub overflow-add-start : goal.overflow-add-start
-overflow-add-start g c =
-    let r = link-within far_array_mark (row (g.K.Kind.meaning c.args.self.now.item) c.args.self.now.count) g.E.Endian.order (row_keeps (g.K.Kind.meaning c.args.self.now.item) c.args.self.now.count (g.met.K.Kind.lawful c.args.self.now.item)) c.args.sheet.now (typed_bytes c.args.sheet.now c.type-inv.sheet) c.args.at.now c.args.out.now c.args.head c.args.tail c.requires c.reach-place.result c.row-size.result (c.reach-place.ensures.place ∙ ap (up c.args.tail) c.align.ensures) c.row-size.ensures in
+pub overflow_add-start : goal.overflow_add-start
+overflow_add-start g c =
+    let r = link-within far_array_mark (row (g.K.Kind.meaning c.args.self.now.item) c.args.self.now.count) g.E.Endian.order (row_keeps (g.K.Kind.meaning c.args.self.now.item) c.args.self.now.count (g.met.K.Kind.lawful c.args.self.now.item)) c.args.sheet.now (typed_bytes c.args.sheet.now c.type_inv.sheet) c.args.at.now c.args.out.now c.args.head c.args.tail c.requires c.reach-place.result c.row_size.result (c.reach-place.ensures.place ∙ ap (up c.args.tail) c.align.ensures) c.row_size.ensures in
     omega (arith, c.requires.capped)
 
-pub fill-row-requires : goal.fill-row-requires
-fill-row-requires g c =
-    link_fillable far_array_mark (row (g.K.Kind.meaning c.args.self.now.item) c.args.self.now.count) g.E.Endian.order (row_keeps (g.K.Kind.meaning c.args.self.now.item) c.args.self.now.count (g.met.K.Kind.lawful c.args.self.now.item)) c.args.sheet.now (typed_bytes c.args.sheet.now c.type-inv.sheet) c.args.at.now c.args.out.now c.args.head c.args.tail c.requires c.reach-place.result c.row-size.result (c.reach-place.ensures.place ∙ ap (up c.args.tail) c.align.ensures) c.row-size.ensures c.reach-place.new.out c.reach-place.auto.out
+pub fill_row-requires : goal.fill_row-requires
+fill_row-requires g c =
+    link_fillable far_array_mark (row (g.K.Kind.meaning c.args.self.now.item) c.args.self.now.count) g.E.Endian.order (row_keeps (g.K.Kind.meaning c.args.self.now.item) c.args.self.now.count (g.met.K.Kind.lawful c.args.self.now.item)) c.args.sheet.now (typed_bytes c.args.sheet.now c.type_inv.sheet) c.args.at.now c.args.out.now c.args.head c.args.tail c.requires c.reach-place.result c.row_size.result (c.reach-place.ensures.place ∙ ap (up c.args.tail) c.align.ensures) c.row_size.ensures c.reach-place.new.out c.reach-place.auto.out
 
 pub returns : goal.returns
 returns g c =
     let place = c.reach-place.ensures.place in
-    let r = link-filled far_array_mark (row (g.K.Kind.meaning c.args.self.now.item) c.args.self.now.count) g.E.Endian.order (row_keeps (g.K.Kind.meaning c.args.self.now.item) c.args.self.now.count (g.met.K.Kind.lawful c.args.self.now.item)) c.args.sheet.now (typed_bytes c.args.sheet.now c.type-inv.sheet) c.args.at.now c.args.out.now c.args.head c.args.tail c.requires c.reach-place.result c.row-size.result (place ∙ ap (up c.args.tail) c.align.ensures) c.row-size.ensures g.met.E.Endian.undoes c.reach-place.new.out c.fill-row.new.out c.fill-row.result
-    (c.reach-place.ensures.bytes ∙ sym (ap (λ q. put (put c.args.out.now c.args.head (g.E.Endian.order.lay 4 (q - c.args.head))) c.args.tail (zeros (q - c.args.tail))) place)) c.fill-row.ensures.bytes c.fill-row.ensures.end in
-    record { bytes = r.0; end = r.1; next = link-next far_array_mark (row (g.K.Kind.meaning c.args.self.now.item) c.args.self.now.count) g.E.Endian.order (row_keeps (g.K.Kind.meaning c.args.self.now.item) c.args.self.now.count (g.met.K.Kind.lawful c.args.self.now.item)) c.args.sheet.now (typed_bytes c.args.sheet.now c.type-inv.sheet) c.args.at.now c.requires.next c.fill-row.new.at c.requires.found c.fill-row.ensures.next }
+    let r = link-filled far_array_mark (row (g.K.Kind.meaning c.args.self.now.item) c.args.self.now.count) g.E.Endian.order (row_keeps (g.K.Kind.meaning c.args.self.now.item) c.args.self.now.count (g.met.K.Kind.lawful c.args.self.now.item)) c.args.sheet.now (typed_bytes c.args.sheet.now c.type_inv.sheet) c.args.at.now c.args.out.now c.args.head c.args.tail c.requires c.reach-place.result c.row_size.result (place ∙ ap (up c.args.tail) c.align.ensures) c.row_size.ensures g.met.E.Endian.undoes c.reach-place.new.out c.fill_row.new.out c.fill_row.result
+    (c.reach-place.ensures.bytes ∙ sym (ap (λ q. put (put c.args.out.now c.args.head (g.E.Endian.order.lay 4 (q - c.args.head))) c.args.tail (zeros (q - c.args.tail))) place)) c.fill_row.ensures.bytes c.fill_row.ensures.end in
+    record { bytes = r.0; end = r.1; next = link-next far_array_mark (row (g.K.Kind.meaning c.args.self.now.item) c.args.self.now.count) g.E.Endian.order (row_keeps (g.K.Kind.meaning c.args.self.now.item) c.args.self.now.count (g.met.K.Kind.lawful c.args.self.now.item)) c.args.sheet.now (typed_bytes c.args.sheet.now c.type_inv.sheet) c.args.at.now c.requires.next c.fill_row.new.at c.requires.found c.fill_row.ensures.next }

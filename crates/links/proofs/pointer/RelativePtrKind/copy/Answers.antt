@@ -9,9 +9,9 @@ led-requires g c = let r = reads (g.K.Kind.meaning c.args.self.now.item) g.E.End
 pub copy-requires : goal.copy-requires
 copy-requires g c =
     let r = reads (g.K.Kind.meaning c.args.self.now.item) g.E.Endian.order pointer_mark c.args.archive.now c.args.at c.requires.sheet c.requires.read in
-    led_copyable r c.led.result c.led.ensures c.put-at.new.out c.args.to _ c.requires.seated.capped (omega (arith, c.requires.room, c.put-at.auto.out)) refl
+    led_copyable r c.led.result c.led.ensures c.put_at.new.out c.args.to _ c.requires.seated.capped (omega (arith, c.requires.room, c.put_at.auto.out)) refl
 
 pub returns : goal.returns
 returns g c s h =
     let r = reads (g.K.Kind.meaning c.args.self.now.item) g.E.Endian.order pointer_mark c.args.archive.now c.args.at s h in
-    led_copied r c.led.result c.led.ensures c.args.out.now c.put-at.new.out c.copy.new.out c.args.to _ c.copy.result (omega (arith, c.requires.room)) c.put-at.ensures refl c.copy.ensures
+    led_copied r c.led.result c.led.ensures c.args.out.now c.put_at.new.out c.copy.new.out c.args.to _ c.copy.result (omega (arith, c.requires.room)) c.put_at.ensures refl c.copy.ensures

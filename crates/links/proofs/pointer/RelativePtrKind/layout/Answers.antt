@@ -7,22 +7,22 @@ use Rattle.holding.proofs.FarAsked.{far-tail_asks, far-tail_is}
 use Rattle.links.proofs.LinkCalls.{link-room, link-next, link_askable, link_foretold}
 use Rattle.links.proofs.pointer.RelativePtrKind.layout.Goals as goal
 
-pub overflow-add-at : goal.overflow-add-at
-overflow-add-at g c = let r = link-room pointer_mark (g.K.Kind.meaning c.args.self.now.item) g.E.Endian.order (g.met.K.Kind.lawful c.args.self.now.item).keeps c.args.sheet.now (typed_bytes c.args.sheet.now c.type-inv.sheet) c.args.at.now c.requires.next c.requires.found in omega arith
+pub overflow_add-at : goal.overflow_add-at
+overflow_add-at g c = let r = link-room pointer_mark (g.K.Kind.meaning c.args.self.now.item) g.E.Endian.order (g.met.K.Kind.lawful c.args.self.now.item).keeps c.args.sheet.now (typed_bytes c.args.sheet.now c.type_inv.sheet) c.args.at.now c.requires.next c.requires.found in omega arith
 
-pub far-tail-start-requires : goal.far-tail-start-requires
-far-tail-start-requires g c = far-tail_asks (g.K.Kind.meaning c.args.self.now.item) (g.met.K.Kind.lawful c.args.self.now.item).keeps c.args.tail c.align.result c.size.result c.requires.reached c.align.ensures c.size.ensures
+pub far_tail-start-requires : goal.far_tail-start-requires
+far_tail-start-requires g c = far-tail_asks (g.K.Kind.meaning c.args.self.now.item) (g.met.K.Kind.lawful c.args.self.now.item).keeps c.args.tail c.align.result c.size.result c.requires.reached c.align.ensures c.size.ensures
 
 pub layout-end-requires : goal.layout-end-requires
 layout-end-requires g c =
-    link_askable pointer_mark (g.K.Kind.meaning c.args.self.now.item) g.E.Endian.order (g.met.K.Kind.lawful c.args.self.now.item).keeps c.args.sheet.now (typed_bytes c.args.sheet.now c.type-inv.sheet) c.args.at.now c.args.tail c.requires c.far-tail-start.result
-    (far-tail_is (g.K.Kind.meaning c.args.self.now.item) (g.met.K.Kind.lawful c.args.self.now.item).keeps c.args.tail c.align.result c.size.result c.far-tail-start.result c.far-tail-start.ensures c.align.ensures c.size.ensures)
+    link_askable pointer_mark (g.K.Kind.meaning c.args.self.now.item) g.E.Endian.order (g.met.K.Kind.lawful c.args.self.now.item).keeps c.args.sheet.now (typed_bytes c.args.sheet.now c.type_inv.sheet) c.args.at.now c.args.tail c.requires c.far_tail-start.result
+    (far-tail_is (g.K.Kind.meaning c.args.self.now.item) (g.met.K.Kind.lawful c.args.self.now.item).keeps c.args.tail c.align.result c.size.result c.far_tail-start.result c.far_tail-start.ensures c.align.ensures c.size.ensures)
 
 pub returns : goal.returns
 returns g c = record {
   foretold =
       subst (Foretold (pointer (g.K.Kind.meaning c.args.self.now.item) g.E.Endian.order) c.args.sheet.now c.args.at.now c.args.tail c.layout-end.result.0) (sym c.max.ensures)
-      (link_foretold pointer_mark (g.K.Kind.meaning c.args.self.now.item) g.E.Endian.order (g.met.K.Kind.lawful c.args.self.now.item).keeps c.args.sheet.now (typed_bytes c.args.sheet.now c.type-inv.sheet) c.args.at.now c.args.tail c.requires c.far-tail-start.result c.layout-end.result.0 c.layout-end.result.1
-      (far-tail_is (g.K.Kind.meaning c.args.self.now.item) (g.met.K.Kind.lawful c.args.self.now.item).keeps c.args.tail c.align.result c.size.result c.far-tail-start.result c.far-tail-start.ensures c.align.ensures c.size.ensures) c.layout-end.ensures.foretold);
-  next = link-next pointer_mark (g.K.Kind.meaning c.args.self.now.item) g.E.Endian.order (g.met.K.Kind.lawful c.args.self.now.item).keeps c.args.sheet.now (typed_bytes c.args.sheet.now c.type-inv.sheet) c.args.at.now c.requires.next c.layout-end.new.at c.requires.found c.layout-end.ensures.next;
+      (link_foretold pointer_mark (g.K.Kind.meaning c.args.self.now.item) g.E.Endian.order (g.met.K.Kind.lawful c.args.self.now.item).keeps c.args.sheet.now (typed_bytes c.args.sheet.now c.type_inv.sheet) c.args.at.now c.args.tail c.requires c.far_tail-start.result c.layout-end.result.0 c.layout-end.result.1
+      (far-tail_is (g.K.Kind.meaning c.args.self.now.item) (g.met.K.Kind.lawful c.args.self.now.item).keeps c.args.tail c.align.result c.size.result c.far_tail-start.result c.far_tail-start.ensures c.align.ensures c.size.ensures) c.layout-end.ensures.foretold);
+  next = link-next pointer_mark (g.K.Kind.meaning c.args.self.now.item) g.E.Endian.order (g.met.K.Kind.lawful c.args.self.now.item).keeps c.args.sheet.now (typed_bytes c.args.sheet.now c.type_inv.sheet) c.args.at.now c.requires.next c.layout-end.new.at c.requires.found c.layout-end.ensures.next;
 }

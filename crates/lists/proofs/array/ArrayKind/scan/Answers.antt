@@ -7,9 +7,9 @@ use Rattle.lists.proofs.array.ArrayKind.scan.Goals as goal
 
 pub returns : goal.returns
 returns g c =
-    let mark = sym c.in-ok-first.ensures.told in
-    let e = mark-end array_mark 0 c.args.sheet.now c.args.at c.in-ok-first.first mark in
+    let mark = sym c.in_ok-first.ensures.told in
+    let e = mark-end array_mark 0 c.args.sheet.now c.args.at c.in_ok-first.first mark in
     record {
-      told = c.held.ensures.told ∙ (ap inside c.scan-row.ensures.told ∙ sym (behind-good array_mark 0 (row (g.K.Kind.meaning c.args.self.now.item) c.args.self.now.count) c.args.sheet.now c.args.at c.in-ok-first.first mark));
-      within = within_held c.held.result c.scan-row.result c.args.at c.in-ok-first.first (length c.args.sheet.now) (omega arith) c.held.ensures.same c.scan-row.ensures.within;
+      told = c.held.ensures.told ∙ (ap inside c.scan_row.ensures.told ∙ sym (behind-good array_mark 0 (row (g.K.Kind.meaning c.args.self.now.item) c.args.self.now.count) c.args.sheet.now c.args.at c.in_ok-first.first mark));
+      within = within_held c.held.result c.scan_row.result c.args.at c.in_ok-first.first (length c.args.sheet.now) (omega arith) c.held.ensures.same c.scan_row.ensures.within;
     }

@@ -13,20 +13,20 @@ returns-then-count-eq0 g c s h =
     let n = c.unwrap-place.result.1 in
     let r = slice-reads (g.K.Kind.meaning c.args.self.now.item) g.E.Endian.order c.args.archive.now c.args.at c.unwrap-place.result.0 c.unwrap-place.result.1 (sym (ap (told_by span_of) c.unwrap-place.ensures) ∙ c.span.ensures) s h in
     none-copied c.args.out.now c.lay.new.out s r.0 c.args.to n c.if-count-eq0.true (sym r.1.0 ∙ ap (λ n. (row (g.K.Kind.meaning c.args.self.now.item) n).reading c.args.archive.now c.unwrap-place.result.0) c.if-count-eq0.true) r.1.1
-    (front_put c.args.out.now c.put-at.new.out c.lay.new.out c.args.to n (omega (arith, c.requires.room)) c.put-at.ensures c.lay.ensures.bytes)
+    (front_put c.args.out.now c.put_at.new.out c.lay.new.out c.args.to n (omega (arith, c.requires.room)) c.put_at.ensures c.lay.ensures.bytes)
 
-pub copy-row-requires : goal.copy-row-requires
-copy-row-requires g c =
+pub copy_row-requires : goal.copy_row-requires
+copy_row-requires g c =
     let n = c.unwrap-place.result.1 in
     let r = slice-reads (g.K.Kind.meaning c.args.self.now.item) g.E.Endian.order c.args.archive.now c.args.at c.unwrap-place.result.0 c.unwrap-place.result.1 (sym (ap (told_by span_of) c.unwrap-place.ensures) ∙ c.span.ensures) c.requires.sheet c.requires.read in
     held_copyable (row (g.K.Kind.meaning c.args.self.now.item) n) (slice_mark ++ low_first 4 n) c.args.archive.now c.unwrap-place.result.0 c.requires.sheet r.0 r.1.0 r.1.1 c.lay.new.out c.args.to (c.args.to + 6) c.requires.seated.capped
     (slice-sits (g.K.Kind.meaning c.args.self.now.item) g.E.Endian.order c.args.archive.now c.args.at c.unwrap-place.result.0 c.unwrap-place.result.1 (sym (ap (told_by span_of) c.unwrap-place.ensures) ∙ c.span.ensures) c.if-count-eq0.false)
-    (omega (arith, c.requires.room, c.lay.auto.out, c.put-at.auto.out)) (ap (λ z. c.args.to + z) (sym (front_long n)))
+    (omega (arith, c.requires.room, c.lay.auto.out, c.put_at.auto.out)) (ap (λ z. c.args.to + z) (sym (front_long n)))
 
 pub returns : goal.returns
 returns g c s h =
     let n = c.unwrap-place.result.1 in
     let r = slice-reads (g.K.Kind.meaning c.args.self.now.item) g.E.Endian.order c.args.archive.now c.args.at c.unwrap-place.result.0 c.unwrap-place.result.1 (sym (ap (told_by span_of) c.unwrap-place.ensures) ∙ c.span.ensures) s h in
-    held-copied (row (g.K.Kind.meaning c.args.self.now.item) n) (slice_mark ++ low_first 4 n) c.args.archive.now c.unwrap-place.result.0 s r.0 r.1.0 r.1.1 c.args.out.now c.lay.new.out c.copy-row.new.out c.args.to (c.args.to + 6) c.copy-row.result
-    (omega (arith, c.requires.room)) (front_put c.args.out.now c.put-at.new.out c.lay.new.out c.args.to n (omega (arith, c.requires.room)) c.put-at.ensures c.lay.ensures.bytes)
-    (ap (λ z. c.args.to + z) (sym (front_long n))) c.copy-row.ensures
+    held-copied (row (g.K.Kind.meaning c.args.self.now.item) n) (slice_mark ++ low_first 4 n) c.args.archive.now c.unwrap-place.result.0 s r.0 r.1.0 r.1.1 c.args.out.now c.lay.new.out c.copy_row.new.out c.args.to (c.args.to + 6) c.copy_row.result
+    (omega (arith, c.requires.room)) (front_put c.args.out.now c.put_at.new.out c.lay.new.out c.args.to n (omega (arith, c.requires.room)) c.put_at.ensures c.lay.ensures.bytes)
+    (ap (λ z. c.args.to + z) (sym (front_long n))) c.copy_row.ensures

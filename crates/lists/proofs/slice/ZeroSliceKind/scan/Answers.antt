@@ -6,6 +6,6 @@ use Rattle.lists.proofs.slice.ZeroSliceKind.scan.Goals as goal
 
 pub returns : goal.returns
 returns g c = record {
-  told = c.held.ensures.told ∙ (ap inside c.scan-row.ensures.told ∙ sym (slice-scan (g.K.Kind.meaning c.args.self.now.item) g.E.Endian.order c.args.sheet.now c.args.at c.in-ok-count.count (sym c.in-ok-count.ensures.told)));
-  within = within_held c.held.result c.scan-row.result c.args.at (c.args.at + 6) (length c.args.sheet.now) (omega arith) c.held.ensures.same c.scan-row.ensures.within;
+  told = c.held.ensures.told ∙ (ap inside c.scan_row.ensures.told ∙ sym (slice-scan (g.K.Kind.meaning c.args.self.now.item) g.E.Endian.order c.args.sheet.now c.args.at c.in_ok-count.count (sym c.in_ok-count.ensures.told)));
+  within = within_held c.held.result c.scan_row.result c.args.at (c.args.at + 6) (length c.args.sheet.now) (omega arith) c.held.ensures.same c.scan_row.ensures.within;
 }

@@ -15,19 +15,19 @@ filled o law out m₁ m₂ new bs xs h t e small room a b c =
 stops_past : (t len : ℕ) (bs xs : List ℕ) → xs ≡ bs → len ≤ limit → stop (t + length xs) ≤ len → t + length bs ≤ len
 stops_past t len bs xs e l h = let k = ap length e in omega arith
 
-pub put-at-requires : goal.put-at-requires
-put-at-requires g c =
-    let f = c.next-text-bytes.ensures.found text_mark c.requires.next c.requires.found in
-    let r = stops_past c.args.tail (length c.args.out.now) c.next-text-bytes.result.now _ f.text c.requires.capped c.requires.room in
+pub put_at-requires : goal.put_at-requires
+put_at-requires g c =
+    let f = c.next_text-bytes.ensures.found text_mark c.requires.next c.requires.found in
+    let r = stops_past c.args.tail (length c.args.out.now) c.next_text-bytes.result.now _ f.text c.requires.capped c.requires.room in
     omega arith
 
 pub returns : goal.returns
 returns g c =
-    let f = c.next-text-bytes.ensures.found text_mark c.requires.next c.requires.found in
-    let r = stops_past c.args.tail (length c.args.out.now) c.next-text-bytes.result.now _ f.text c.requires.capped c.requires.room in
+    let f = c.next_text-bytes.ensures.found text_mark c.requires.next c.requires.found in
+    let r = stops_past c.args.tail (length c.args.out.now) c.next_text-bytes.result.now _ f.text c.requires.capped c.requires.room in
     let k = ap length f.text in
     record {
-      bytes = filled g.E.Endian.order g.met.E.Endian.undoes c.args.out.now c.lay.new.out c.lead.new.out c.put-at.new.out c.next-text-bytes.result.now _ c.args.head c.args.tail f.text c.next-text-bytes.ensures.small (omega arith) c.lay.ensures.bytes c.lead.ensures c.put-at.ensures;
+      bytes = filled g.E.Endian.order g.met.E.Endian.undoes c.args.out.now c.lay.new.out c.lead.new.out c.put_at.new.out c.next_text-bytes.result.now _ c.args.head c.args.tail f.text c.next_text-bytes.ensures.small (omega arith) c.lay.ensures.bytes c.lead.ensures c.put_at.ensures;
       end = omega arith;
       next = f.next;
     }

@@ -23,10 +23,10 @@ filled o law out m₁ m₂ new bs xs h t k c e n front small room room₁ a b d 
 
 pub returns : goal.returns
 returns g c =
-    let f = c.next-text-bytes.ensures.found inline_mark c.requires.next c.requires.found in
-    let k = c.cut-length-kept.result in
+    let f = c.next_text-bytes.ensures.found inline_mark c.requires.next c.requires.found in
+    let k = c.cut_length-kept.result in
     record {
-      bytes = filled g.E.Endian.order g.met.E.Endian.undoes c.args.out.now c.lay.new.out c.put-at.new.out c.put-zeros.new.out c.next-text-bytes.result.now _ c.args.head c.args.tail k c.args.self.now.capacity f.text c.cut-length-kept.ensures.long c.cut-length-kept.ensures.front c.lay.ensures.small (omega arith) (omega arith) c.lay.ensures.bytes c.put-at.ensures (c.put-zeros.ensures ∙ ap (λ z. put c.put-at.new.out (c.args.head + 4 + k) (zeros (z - (4 + k)))) c.size.ensures);
+      bytes = filled g.E.Endian.order g.met.E.Endian.undoes c.args.out.now c.lay.new.out c.put_at.new.out c.put_zeros.new.out c.next_text-bytes.result.now _ c.args.head c.args.tail k c.args.self.now.capacity f.text c.cut_length-kept.ensures.long c.cut_length-kept.ensures.front c.lay.ensures.small (omega arith) (omega arith) c.lay.ensures.bytes c.put_at.ensures (c.put_zeros.ensures ∙ ap (λ z. put c.put_at.new.out (c.args.head + 4 + k) (zeros (z - (4 + k)))) c.size.ensures);
       end = refl;
       next = f.next;
     }
