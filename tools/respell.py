@@ -105,7 +105,7 @@ def main():
         else:
             # A definition that would have the name of a function of the file goes by another there.
             functions = set(re.findall(r"\bfn ([a-z_0-9]+)", text)) | set(re.findall(r"^\s*(?:pub )?use (?!Rattle)[\w:]*::(\w+);", text, re.M))
-            met = {a for a in DASHED.findall(text) if new.get(a) in functions and a not in kept}
+            met = {a for a in DASHED.findall(text) if new.get(a) in functions and a not in kept and f"{a} as " not in text}
             if met:
                 print(f"goes by another name in {path}: {', '.join(sorted(met))}")
             lines = []

@@ -1,6 +1,6 @@
 // Whether a value of a kind stands at a place: by one look, and by reading all that it holds.
 ghost use Rattle.std.specs.Prelude.{◌≡◌, OnOk};
-ghost use Rattle.format.specs.Archive.{rooted, is_valid as is_valid_by as is_valid_by, is_valid_deep as is_valid_deep_by as is_valid_deep_by};
+ghost use Rattle.format.specs.Archive.{rooted, is_valid as is_valid_by, is_valid_deep as is_valid_deep_by};
 ghost use Rattle.kind.specs.Asked.{Seated};
 ghost use Rattle.refusal.specs.Told.{told};
 

@@ -1,6 +1,6 @@
 // What a builder can be asked. A refused call changes nothing.
 ghost use Rattle.std.specs.Prelude.{◌≡◌};
-ghost use Rattle.format.specs.Builder.{new as begun, step, align as aligns, reserve as reserves, reserve_bytes as reserve_bytes_by as reserves_bytes, write as writes, push as pushes, push_bytes as push_bytes_by as pushes_bytes, finish as ends};
+ghost use Rattle.format.specs.Builder.{new as begun, step, align as aligns, reserve as reserves, reserve_bytes as reserves_bytes, write as writes, push as pushes, push_bytes as pushes_bytes, finish as ends};
 ghost use Rattle.format.specs.Life.{LivesWell};
 ghost use Rattle.refusal.specs.Told.{told_by};
 ghost use Rattle.builder.specs.Model.{model, left, finished_of};
