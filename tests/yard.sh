@@ -3,7 +3,7 @@
 # nothing is left half written. Its last line says how many checks passed.
 set -u
 root=$(cd "$(dirname "$0")/.." && pwd)
-bin="$root/target/bin/yard"
+bin="$root/crates/yard/out/yard"
 room=$(mktemp -d)
 trap 'rm -rf "$room"' EXIT
 cd "$room" || exit 1

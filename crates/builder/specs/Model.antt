@@ -3,7 +3,7 @@ use Rattle.std.specs.Prelude.{◌≡◌, ℕ, ◌+◌, ◌-◌, ◌≤◌, true,
 use Rattle.refusal.specs.declared.refusal.Refusal.{Refusal}
 use Rattle.refusal.specs.Told.{told}
 use Rattle.format.specs.Places.{stop, zeros}
-use Rattle.format.specs.Meaning.{Meaning, Laid}
+use Rattle.format.specs.Meaning.{Meaning}
 use Rattle.format.specs.Builder.{Builder, Change, After, Finished, allowed}
 use Rattle.builder.specs.declared.ZeroBuilder.{ZeroBuilder}
 use Rattle.builder.specs.declared.Finished.{Finished as End}

@@ -1,7 +1,7 @@
 -- Laws that the code of a builder rests on: what its tests come to, and what is left when parts are put one behind another. Assumes nothing.
-use Rattle.std.proofs.Common.{◌≡◌, ℕ, zero, suc, ◌+◌, ◌-◌, ◌^◌, ◌<◌, ◌≤◌, max, Bool, true, false, ◌&&◌, eqb, leb, List, [], ◌∷◌, ◌++◌, length, take, drop, sym, refl, ap, ◌∙◌, subst, ⊎_elim, zero-add, arith}
-use Rattle.std.proofs.lemmas.List.{length-append, length-replicate, take_all}
-use Rattle.std.proofs.lemmas.Bool.{le-leb, leb-true, lt-leb, eq-eqb, and_parts, cases_lt}
+use Rattle.std.proofs.Common.{◌≡◌, ℕ, zero, suc, ◌+◌, ◌-◌, ◌^◌, ◌<◌, ◌≤◌, max, Bool, true, false, ◌&&◌, leb, List, ◌++◌, length, drop, sym, refl, ap, ◌∙◌, subst, ⊎_elim, zero-add, arith}
+use Rattle.std.proofs.lemmas.List.{length-replicate, take_all}
+use Rattle.std.proofs.lemmas.Bool.{le-leb, leb-true, eq-eqb, and_parts, cases_lt}
 use Rattle.format.specs.Places.{limit, stop, up, zeros, put, Alignment, Bytes}
 use Rattle.format.specs.Answers.{Answer, Fault, good, bad, fault, unless, both, shifted}
 use Rattle.format.specs.Sheets.{at_place, ended}
@@ -9,9 +9,9 @@ use Rattle.format.specs.Items.{first_of}
 use Rattle.format.specs.Meaning.{Meaning, Laid, Placed, Laws}
 use Rattle.format.specs.Builder.{Builder, Call, build, Change, allowed, whole, appended, change, done, step}
 use Rattle.format.proofs.ByteLists.{length-put}
-use Rattle.format.proofs.AnswerLaws.{unless-true, unless-false, unless_parts, both-good, both-bad, both-both_unused, both_parts, good-same}
+use Rattle.format.proofs.AnswerLaws.{unless-true, unless_parts, both-good, both-both_unused, both_parts, good-same}
 use Rattle.format.proofs.PutLaws.{put-put}
-use Rattle.format.proofs.BuilderLaws.{Sound, Fit, Built, build_built, change_fit}
+use Rattle.format.proofs.BuilderLaws.{Sound, Built, build_built, change_fit}
 
 -- what a test says of each number below n
 abbrev below : (ℕ → Bool) → ℕ → Bool

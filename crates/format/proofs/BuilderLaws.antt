@@ -14,8 +14,8 @@ use Rattle.format.proofs.AnswerLaws.{unless-true, unless_parts, both_parts, good
 use Rattle.format.proofs.RoundLaws.{up_ge, up-mod, alignment_pos, alignment-max}
 
 -- bytes that are put over others change no other place
-get_d_part : (a : List ℕ) (p n i : ℕ) → i < n → get_or (part p n a) i 0 ≡ get_or a (p + i) 0
-get_d_part a p n i h = get_or-take n (drop p a) i 0 h ∙ get_or-drop p a i 0
+get_or-part : (a : List ℕ) (p n i : ℕ) → i < n → get_or (part p n a) i 0 ≡ get_or a (p + i) 0
+get_or-part a p n i h = get_or-take n (drop p a) i 0 h ∙ get_or-drop p a i 0
 
 module _ (a : List ℕ) (q : ℕ) (ys : List ℕ) (low : q ≤ length a) where
   get_or-put : (i : ℕ) → (q ≤ i → i < q + length ys → ⊥) → get_or (put a q ys) i 0 ≡ get_or a i 0
@@ -33,9 +33,9 @@ module _ (a : List ℕ) (q : ℕ) (ys : List ℕ) (low : q ≤ length a) where
         within = in_put;
         same = ext_get_or 0 (part p (length xs) (put a q ys)) xs (length_part p (length xs) (put a q ys) in_put) (λ i k.
             let k' : i < length xs = subst (λ z. i < z) (length_part p (length xs) (put a q ys) in_put) k in
-            get_d_part (put a q ys) p (length xs) i k' ∙
+            get_or-part (put a q ys) p (length xs) i k' ∙
             (get_or-put (p + i) (λ x y. out (p + i) (omega arith) (omega arith) x y) ∙
-            (sym (get_d_part a p (length xs) i k') ∙ ap (λ z. get_or z i 0) h.same)));
+            (sym (get_or-part a p (length xs) i k') ∙ ap (λ z. get_or z i 0) h.same)));
       }
 
 -- the archive in a buffer, after bytes were put over it or behind it

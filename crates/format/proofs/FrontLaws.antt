@@ -1,15 +1,15 @@
 -- What a good answer says of the front of a sheet, and which fronts are answered so. Assumes nothing.
-use Rattle.std.proofs.Common.{◌≡◌, ℕ, ◌+◌, ◌^◌, ◌<◌, ◌≤◌, Bool, true, false, eqb, leb, List, [], ◌∷◌, ◌++◌, length, take, drop, sym, refl, ap, ◌∙◌, subst, ap₂, append_assoc, arith}
+use Rattle.std.proofs.Common.{◌≡◌, ℕ, ◌+◌, ◌^◌, ◌<◌, ◌≤◌, Bool, true, leb, List, ◌++◌, length, take, drop, sym, ap, ◌∙◌, subst, ap₂, append_assoc, arith}
 use Rattle.std.proofs.lemmas.List.{length-append, length-take-le, length-drop, take_all, take-append-drop, take_at, drop_at, drop-drop}
-use Rattle.std.proofs.lemmas.Bool.{le-leb, eq-eqb, eqb-true, and_from, and_parts}
+use Rattle.std.proofs.lemmas.Bool.{le-leb}
 use Rattle.format.specs.Places.{Bytes, part}
 use Rattle.format.specs.Orders.{low_first, number}
 use Rattle.format.specs.Recogniser.{is_text}
-use Rattle.format.specs.Answers.{Answer, Fault, good, bad, both, unless}
-use Rattle.format.specs.Sheets.{same, marked, number_of, text_of, scan_number, scan_text, text_behind, number_sheet, text_sheet}
+use Rattle.format.specs.Answers.{good}
+use Rattle.format.specs.Sheets.{marked, number_of, text_of, scan_number, scan_text, text_behind, number_sheet, text_sheet}
 use Rattle.format.proofs.ByteLists.{bytes-part, length_part}
 use Rattle.format.proofs.OrderLaws.{number-low_first, number_lt, low_first-number}
-use Rattle.format.proofs.AnswerLaws.{unless-true, unless_parts, both-good, both_parts}
+use Rattle.format.proofs.AnswerLaws.{unless-true, both-good, both_parts}
 use Rattle.format.proofs.SheetLaws.{marked_front, marked_from, scan_number-end, scan_text-end}
 use Rattle.format.proofs.PlaceLaws.{split_holds, part-longer}
 

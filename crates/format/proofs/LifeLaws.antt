@@ -191,8 +191,8 @@ built_standing room s m v x r k g y =
     }
 
 -- each accepted build's record that no later accepted write fell upon is readable at the end
-pub left-readable : LeftReadable
-left-readable buf b earlier later m v p begun life ans spared = go (way room s ready (own (build m v)) tt) where
+pub left_readable : LeftReadable
+left_readable buf b earlier later m v p begun life ans spared = go (way room s ready (own (build m v)) tt) where
   room : ℕ
   room = length buf
 
@@ -278,8 +278,8 @@ module _ (narrow wide : ℕ) (more : narrow ≤ wide) where
   alike_from (e ∷ es) s t w l = alike_more e es s t w (way narrow s w.one e l.0) l.1 (λ s' t' w'. alike_from es s' t' w' l.2)
 
 -- with the refused events left out, and any buffer as long or longer, the same life gives the same
-pub same-again : SameAgain
-same-again buf wide b c es one two more l =
+pub same_again : SameAgain
+same_again buf wide b c es one two more l =
     let x = new_ready buf b one in
     let y = new_ready wide c two in
     alike_from (length buf) (length wide) more es _ _ (record {
@@ -300,10 +300,10 @@ lives_well b s es begun life ends = subst (λ z. Leaves s es (finish z)) ends (r
   readable = λ earlier later m v p cut ans spared.
       let t = after (own (build m v)) (lived s earlier) in
       let same : lived t later ≡ lived s es = sym (ap (lived s) cut ∙ lived_on s earlier (own (build m v) ∷ later)) in
-      let e = subst (λ z. Everywhere m v z p) same (left-readable s.buffer s.builder earlier later m v p begun (subst (Life (length s.buffer)) cut life) ans spared) in
+      let e = subst (λ z. Everywhere m v z p) same (left_readable s.buffer s.builder earlier later m v p begun (subst (Life (length s.buffer)) cut life) ans spared) in
       record { here = e.here; moved = e.moved };
   again = λ wide c opened more.
-      let r = same-again s.buffer wide s.builder c es begun opened more life in
+      let r = same_again s.buffer wide s.builder c es begun opened more life in
       let w = lived (record { builder = c; buffer = wide }) (accepted s es) in
       record {
         answers = r.answers;

@@ -1,10 +1,7 @@
 -- Laws of places: parts that an archive holds, rounding up, alignments, moves. Assumes nothing.
-use Rattle.std.proofs.Common.{◌≡◌, ℕ, zero, suc, ◌+◌, ◌-◌, ◌*◌, ◌/◌, ◌%◌, ◌^◌, ◌<◌, ◌≤◌, min, List, [], ◌∷◌, ◌++◌, length, take, drop, replicate, sym, refl, ap, ◌∙◌, subst, append_assoc, arith, pow_pos, pow_mono}
-use native.Mathlib.Nat.{add-mod, mul-mod_left}
-use lib.Pow.{pow-lt, mod-mod-pow}
-use Rattle.std.proofs.lemmas.List.{length-append, length-take-le, length-drop, length-replicate, take_at, drop_at, take-append-le, drop-append-le, take-append-drop, drop-drop}
-use Rattle.std.proofs.lemmas.Bool.{cases_lt}
-use Rattle.format.specs.Places.{limit, stop, up, zeros, part, put, Holds, Alignment}
+use Rattle.std.proofs.Common.{◌≡◌, ℕ, ◌+◌, ◌≤◌, List, ◌++◌, length, take, drop, sym, refl, ap, ◌∙◌, subst, append_assoc, arith}
+use Rattle.std.proofs.lemmas.List.{length-append, length-take-le, length-drop, take_at, drop_at, take-append-le, drop-append-le, take-append-drop, drop-drop}
+use Rattle.format.specs.Places.{part, Holds}
 
 -- an archive that holds a part, taken apart: what is before it, the part, what is behind
 pub record Split (a : List ℕ) (p : ℕ) (xs : List ℕ) : Type 0 where

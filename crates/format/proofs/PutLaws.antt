@@ -21,8 +21,8 @@ put-put buf p xs ys q h e =
     ap (λ z. z ++ (ys ++ drop (q + length ys) (put buf p xs))) first ∙ (ap (λ z. (front ++ xs) ++ (ys ++ z)) last ∙ (append_assoc front xs (ys ++ drop (p + length (xs ++ ys)) buf) ∙ ap (λ z. front ++ z) (sym (append_assoc xs ys (drop (p + length (xs ++ ys)) buf)))))
 
 -- bytes that are put over the first of two parts, and at the start of the second
-put-left : (x y : List ℕ) (p : ℕ) (xs : List ℕ) → p + length xs ≤ length x → put (x ++ y) p xs ≡ put x p xs ++ y
-put-left x y p xs h =
+put_left : (x y : List ℕ) (p : ℕ) (xs : List ℕ) → p + length xs ≤ length x → put (x ++ y) p xs ≡ put x p xs ++ y
+put_left x y p xs h =
     ap₂ (λ a b. a ++ (xs ++ b)) (take-append-le p x y (omega arith)) (drop-append-le (p + length xs) x y h) ∙ sym (append_assoc (take p x) (xs ++ drop (p + length xs) x) y ∙ ap (λ z. take p x ++ z) (append_assoc xs (drop (p + length xs) x) y))
 
 put_right : (x y : List ℕ) (q : ℕ) (ys : List ℕ) → length x ≡ q → put (x ++ y) q ys ≡ x ++ (ys ++ drop (length ys) y)
@@ -34,8 +34,8 @@ put_apart buf p q xs ys h l =
     let x = take q buf in
     let k = length-take-le q buf l in
     let j : length (put x p xs) ≡ q = length-put x p xs (omega arith) ∙ k in
-    let before : put buf p xs ≡ put x p xs ++ drop q buf = ap (λ z. put z p xs) (sym (take-append-drop q buf)) ∙ put-left x (drop q buf) p xs (omega arith) in
-    put-left x (ys ++ drop (q + length ys) buf) p xs (omega arith) ∙
+    let before : put buf p xs ≡ put x p xs ++ drop q buf = ap (λ z. put z p xs) (sym (take-append-drop q buf)) ∙ put_left x (drop q buf) p xs (omega arith) in
+    put_left x (ys ++ drop (q + length ys) buf) p xs (omega arith) ∙
     sym (ap (λ z. put z q ys) before ∙ (put_right (put x p xs) (drop q buf) q ys j ∙ ap (λ z. put x p xs ++ (ys ++ z)) (drop-drop (length ys) q buf)))
 
 -- two places that grow side by side, the first up to the second at most

@@ -1,5 +1,5 @@
 -- Numbers, truths and characters keep the laws of a kind in every byte order that keeps its law. Assumes nothing.
-use Rattle.std.proofs.Common.{◌≡◌, ℕ, ◌^◌, ◌<◌, Bool, true, List, length, refl, ap, ◌∙◌, add-zero, arith, lit<}
+use Rattle.std.proofs.Common.{◌≡◌, ℕ, ◌^◌, ◌<◌, Bool, true, List, length, refl, ap, ◌∙◌, add-zero, arith}
 use native.Mathlib.Nat.{mod_self}
 use Rattle.format.specs.Places.{Bytes, Alignment}
 use Rattle.format.specs.Orders.{Width, Order, Undoes}

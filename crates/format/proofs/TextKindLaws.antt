@@ -1,5 +1,5 @@
 -- Text and inline text keep the laws of a kind in every byte order that keeps its law. Assumes nothing.
-use Rattle.std.proofs.Common.{◌≡◌, ℕ, zero, suc, ◌+◌, ◌-◌, ◌<◌, ◌≤◌, min, Bool, true, false, eqb, List, [], ◌++◌, length, sym, refl, ap, ◌∙◌, add-zero, arith, lit<, lit≤}
+use Rattle.std.proofs.Common.{◌≡◌, ℕ, ◌+◌, ◌-◌, ◌<◌, ◌≤◌, min, Bool, true, false, eqb, List, [], ◌++◌, length, sym, refl, ap, ◌∙◌, add-zero, arith, lit<, lit≤}
 use native.Mathlib.Nat.{mod-one}
 use lib.ListN.{length-replicate}
 use Rattle.std.proofs.lemmas.List.{length-append, nil_from_length}

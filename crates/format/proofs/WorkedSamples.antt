@@ -1,6 +1,6 @@
 -- The worked samples hold: the definitions compute them. Assumes nothing.
 use Rattle.std.proofs.Common.{◌≡◌, ℕ, List, get_or, refl, ap, arith}
-use Rattle.format.specs.Samples.{Worked}
+use Rattle.format.specs.Samples.{Worked, Stepped}
 
 -- two lists that differ at an index are not equal
 differ : (i : ℕ) (xs ys : List ℕ) → (get_or xs i 0 ≡ get_or ys i 0 → ⊥) → xs ≡ ys → ⊥
@@ -28,3 +28,6 @@ worked = record {
   not_from_the_first_item = differ 20 _ _ (λ e. omega arith);
   not_cut_inside_a_character = differ 0 _ _ (λ e. omega arith);
 }
+
+pub stepped : Stepped
+stepped = record { one_number_found = refl; pointer_leading_back = refl }

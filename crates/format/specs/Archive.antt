@@ -1,5 +1,5 @@
 -- The calls on an archive. Assumes nothing.
-use Rattle.std.specs.Prelude.{ℕ, Bool, true, false, List, ◌++◌, length, drop, nat_le}
+use Rattle.std.specs.Prelude.{ℕ, true, false, List, ◌++◌, length, drop, nat_le}
 use Rattle.format.specs.Places.{limit}
 use Rattle.format.specs.Orders.{Order}
 use Rattle.format.specs.Answers.{Answer, good, bad, fault, unless, both}

@@ -1,9 +1,9 @@
 -- The calls on a builder. Assumes nothing.
-use Rattle.std.specs.Prelude.{ℕ, ◌+◌, ◌-◌, max, Bool, true, false, ◌&&◌, ◌||◌, List, [], ◌∷◌, ◌++◌, length, ◌==◌, nat_le}
+use Rattle.std.specs.Prelude.{ℕ, ◌+◌, ◌-◌, max, Bool, false, ◌||◌, List, [], ◌∷◌, ◌++◌, length, ◌==◌, nat_le}
 use Rattle.format.specs.Places.{limit, stop, up, zeros, put}
 use Rattle.format.specs.Answers.{Answer, good, bad, fault, unless, both}
 use Rattle.format.specs.Sheets.{ended}
-use Rattle.format.specs.Meaning.{Meaning, Laid}
+use Rattle.format.specs.Meaning.{Meaning}
 
 pub record Builder : Type 0 where
   -- how much of the buffer is the archive so far

@@ -3,7 +3,7 @@ use Rattle.std.specs.Prelude.{◌≡◌, ℕ, ◌+◌, ◌%◌, ◌<◌, ◌≤�
 use Rattle.format.specs.Places.{limit, Bytes}
 use Rattle.format.specs.Answers.{Answer, good, bad}
 use Rattle.format.specs.Meaning.{Meaning, Laws}
-use Rattle.format.specs.Archive.{is_valid_deep, copy_out, Copied}
+use Rattle.format.specs.Archive.{is_valid_deep, copy_out}
 use Rattle.format.specs.Builder.{Builder, new, Finished, finish, Call, align, reserve, reserve_bytes, write, push, push_bytes, build, After, step}
 
 -- a call that is handed the buffer as the last one left it, or another buffer

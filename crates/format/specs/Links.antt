@@ -1,5 +1,5 @@
 -- Pointers, arrays and slices. Assumes nothing.
-use Rattle.std.specs.Prelude.{ℕ, ◌+◌, ◌-◌, max, List, [], ◌++◌, length, take, drop, ◌==◌}
+use Rattle.std.specs.Prelude.{ℕ, ◌+◌, ◌-◌, max, List, ◌++◌, length, take, drop, ◌==◌}
 use Rattle.format.specs.Places.{part, up, zeros, stop}
 use Rattle.format.specs.Orders.{Order, low_first}
 use Rattle.format.specs.Answers.{Answer, good, unless, both, shifted, inside}

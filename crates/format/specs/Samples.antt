@@ -1,13 +1,13 @@
 -- Worked samples: the definitions at small inputs, and three believable mistakes that they rule out. Assumes nothing.
-use Rattle.std.specs.Prelude.{◌≡◌, ℕ, List, [], ◌∷◌, ◌++◌, replicate}
+use Rattle.std.specs.Prelude.{◌≡◌, ℕ, List, [], ◌∷◌}
 use Rattle.format.specs.Places.{zeros}
 use Rattle.format.specs.Orders.{little, big}
-use Rattle.format.specs.Answers.{Answer, good, bad, fault}
-use Rattle.format.specs.Meaning.{Meaning, Laid}
+use Rattle.format.specs.Answers.{good, bad, fault}
+use Rattle.format.specs.Meaning.{Meaning}
 use Rattle.format.specs.Scalars.{number_kind}
-use Rattle.format.specs.Texts.{text_kind, inline_kind, Part}
-use Rattle.format.specs.Links.{pointer, slice, Span}
-use Rattle.format.specs.Archive.{is_valid, is_valid_deep, sheet_at, get_slice, get_pointer}
+use Rattle.format.specs.Texts.{text_kind, inline_kind}
+use Rattle.format.specs.Links.{pointer, slice}
+use Rattle.format.specs.Archive.{is_valid_deep, sheet_at, get_slice, get_pointer, get, found_target, found_items, pointer_step, slice_step}
 use Rattle.format.specs.Builder.{Builder, After, step, push_bytes, build}
 
 -- a builder over so many bytes, as it starts
@@ -86,3 +86,8 @@ pub record Worked : Type 0 where
   pub not_read_from_the_count : sheet_at (slice (text_kind little) little) counted_from_the_count 0 ≡ good two_texts → ⊥
   pub not_from_the_first_item : (step (build (slice (text_kind little) little) two_texts) (opened 26) (zeros 26)).buffer ≡ counted_from_the_first_item → ⊥
   pub not_cut_inside_a_character : inline_head 2 ≡ 2 ∷ 0 ∷ 0 ∷ 0 ∷ 0x61 ∷ 0xc3 ∷ 0 ∷ 0 ∷ [] → ⊥
+
+-- one step from a head, at the same samples
+pub record Stepped : Type 0 where
+  pub one_number_found : get numbers (slice_step (number_kind 2 little) little) (one_number 4 0) 0 ≡ good (found_items (record { place = 8; count = 1 }))
+  pub pointer_leading_back : get back_pointer (pointer_step (number_kind 1 little) little) leading_back 4 ≡ good (found_target 0)

@@ -4,7 +4,7 @@ use Rattle.format.specs.Places.{part}
 use Rattle.format.specs.Orders.{Order}
 use Rattle.format.specs.Answers.{Answer, good, fault, unless, both}
 use Rattle.format.specs.Sheets.{number_mark, truth_mark, character_mark, scan_number, number_of, number_sheet, any, is_truth, is_character}
-use Rattle.format.specs.Meaning.{Meaning, Laid}
+use Rattle.format.specs.Meaning.{Meaning}
 
 -- the number of w bytes at p, if it passes a test: else 24
 abbrev pub number_at : ℕ → (ℕ → Bool) → Order → List ℕ → ℕ → Answer ℕ

@@ -4,7 +4,7 @@ use Rattle.std.proofs.Math.Utf8.{scalar}
 use Rattle.format.specs.Places.{part}
 use Rattle.format.specs.Orders.{low_first, number}
 use Rattle.format.specs.Recogniser.{is_text}
-use Rattle.format.specs.Answers.{Answer, good, bad, fault, unless, both, shifted}
+use Rattle.format.specs.Answers.{Answer, good, fault, unless, both, shifted}
 
 -- the marks: two ASCII letters that begin each value. N1, N2, N4 and N8
 abbrev pub number_mark : ℕ → List ℕ

@@ -5,7 +5,7 @@ use Rattle.format.specs.Orders.{Order}
 use Rattle.format.specs.Recogniser.{is_text, among}
 use Rattle.format.specs.Answers.{Answer, good, fault, unless, both}
 use Rattle.format.specs.Sheets.{text_mark, inline_mark, scan_text, text_of, text_sheet}
-use Rattle.format.specs.Meaning.{Meaning, Laid, sits}
+use Rattle.format.specs.Meaning.{Meaning, sits}
 
 -- where the distance n leads that stands at p: it is signed, of 32 bits, counted from p; below place 0 is 21
 abbrev pub leads : ℕ → ℕ → Answer ℕ

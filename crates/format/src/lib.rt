@@ -1,3 +1,2 @@
 // The format, as definitions (specs/) and what is proved of them (proofs/). No code.
 #![tactic(auto)]
-

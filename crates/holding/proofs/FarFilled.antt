@@ -1,8 +1,8 @@
 -- What is laid out and filled in behind one distance. Assumes nothing.
-use Rattle.std.proofs.Common.{◌≡◌, ℕ, ◌+◌, ◌-◌, ◌%◌, ◌<◌, ◌≤◌, max, List, [], ◌++◌, length, sym, refl, ap, ◌∙◌, subst, ap₂, arith}
-use Rattle.std.proofs.lemmas.List.{length-append, length-replicate}
+use Rattle.std.proofs.Common.{◌≡◌, ℕ, ◌+◌, ◌-◌, ◌≤◌, max, List, ◌++◌, length, sym, ap, ◌∙◌, subst, arith}
+use Rattle.std.proofs.lemmas.List.{length-replicate}
 use Rattle.format.specs.Places.{limit, stop, up, zeros, put, Bytes}
-use Rattle.format.specs.Meaning.{Meaning, Laid, Belongs, Placed, Keeps}
+use Rattle.format.specs.Meaning.{Meaning, Keeps}
 use Rattle.format.specs.Links.{far}
 use Rattle.format.proofs.ByteLists.{length-put}
 use Rattle.format.proofs.PutLaws.{put-put}

@@ -7,7 +7,7 @@ use Rattle.format.specs.Sheets.{marked, at_place}
 use Rattle.format.specs.Meaning.{Meaning}
 use Rattle.format.specs.Items.{first_of}
 use Rattle.format.specs.Links.{behind}
-use Rattle.format.proofs.AnswerLaws.{at_place-end, at_place-good, at_place_then_bad, inside-good}
+use Rattle.format.proofs.AnswerLaws.{at_place-end, at_place_then_bad, inside-good}
 use Rattle.format.proofs.SheetLaws.{marked-end}
 use Rattle.kind.specs.Asked.{value_at, Next}
 use Rattle.refusal.specs.declared.refusal.Refusal.{Refusal}

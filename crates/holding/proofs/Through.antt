@@ -1,5 +1,5 @@
 -- What is read through one distance, and put behind a front. Assumes nothing.
-use Rattle.std.proofs.Common.{◌≡◌, ℕ, ◌+◌, ◌%◌, ◌≤◌, List, ◌++◌, length, sym, refl, ap, ◌∙◌, subst, arith}
+use Rattle.std.proofs.Common.{◌≡◌, ℕ, ◌+◌, ◌≤◌, List, ◌++◌, length, sym, ap, ◌∙◌, subst, arith}
 use Rattle.std.proofs.lemmas.List.{length-append}
 use Rattle.format.specs.Places.{limit, put}
 use Rattle.format.specs.Orders.{Order}
@@ -7,11 +7,10 @@ use Rattle.format.specs.Answers.{good, both}
 use Rattle.format.specs.Meaning.{Meaning, Sits}
 use Rattle.format.specs.Texts.{target}
 use Rattle.format.specs.Links.{linked, held}
-use Rattle.format.proofs.ByteLists.{length-put}
 use Rattle.format.proofs.AnswerLaws.{both_parts, inside-good, good-same}
 use Rattle.format.proofs.PutLaws.{put-put}
 use Rattle.format.proofs.FarLaws.{linked_parts}
-use Rattle.kind.specs.Asked.{Seated, Copyable}
+use Rattle.kind.specs.Asked.{Copyable}
 
 -- a value that another holds, whose sheet begins with a front
 pub held_parts : (front : List ℕ) (m : Meaning) (a : List ℕ) (q : ℕ) (s : List ℕ) → held front m a q ≡ good s → (r : List ℕ) × ((m.reading a q ≡ good r) × (s ≡ front ++ r))

@@ -1,9 +1,9 @@
 -- What the functions of a kind ask of their callers, and what they leave. Assumes nothing.
-use Rattle.std.specs.Prelude.{◌≡◌, ℕ, ◌+◌, ◌%◌, ◌^◌, ◌≤◌, min, List, length, drop, Some, None, Option}
+use Rattle.std.specs.Prelude.{◌≡◌, ℕ, ◌+◌, ◌%◌, ◌≤◌, min, List, length, drop, Some, None, Option}
 use Rattle.format.specs.Places.{limit, put}
 use Rattle.format.specs.Answers.{Answer, good, both}
 use Rattle.format.specs.Sheets.{at_place}
-use Rattle.format.specs.Meaning.{Meaning, Laid, Sits}
+use Rattle.format.specs.Meaning.{Meaning, Laid}
 use Rattle.format.specs.Items.{first_of}
 
 -- the value at p in a sheet

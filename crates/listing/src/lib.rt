@@ -22,7 +22,7 @@ mod tests {
         let sheet = sheet_of_texts(rt.alloc(), texts.as_slice())?;
         assert_eq!(rt;
             sheet.as_slice(),
-            b"SL\x03\0\0\0TX\x02\0\0\0abTX\0\0\0\0TX\x01\0\0\0c"
+            b"SL\x03\0\0\0TX\x02\0\0\0abTX\0\0\0\0TX\x01\0\0\0c".as_slice()
         );
         let words = list_words(rt.alloc(), sheet.as_slice())?;
         assert_eq!(rt; words.len(), 3);

@@ -22,7 +22,7 @@ mod tests {
         let sheet = sheet_of_texts(rt.alloc(), texts.as_slice())?;
         assert_eq!(rt;
             sheet.as_slice(),
-            b"SL\x03\0\0\0TX\x02\0\0\0abTX\0\0\0\0TX\x01\0\0\0c"
+            b"SL\x03\0\0\0TX\x02\0\0\0abTX\0\0\0\0TX\x01\0\0\0c".as_slice()
         );
         Ok(())
     }
@@ -34,14 +34,14 @@ mod tests {
             cast,
             parts,
         } = plate_of(rt.alloc(), b"P1; C;a;;b")?;
-        assert!(rt; number == b"P1");
-        assert!(rt; cast == b" C");
+        assert!(rt; number == b"P1".as_slice());
+        assert!(rt; cast == b" C".as_slice());
         let mut lists = Vec::new(rt.alloc());
         lists.push(parts)?;
         let sheet = sheet_of_lists(rt.alloc(), lists.as_slice())?;
         assert_eq!(rt;
             sheet.as_slice(),
-            b"SL\x01\0\0\0SL\x03\0\0\0TX\x01\0\0\0aTX\0\0\0\0TX\x01\0\0\0b"
+            b"SL\x01\0\0\0SL\x03\0\0\0TX\x01\0\0\0aTX\0\0\0\0TX\x01\0\0\0b".as_slice()
         );
         Ok(())
     }

@@ -1,5 +1,5 @@
 -- A row that is copied item by item: what is put, and what is left to put. Assumes nothing.
-use Rattle.std.proofs.Common.{◌≡◌, ℕ, suc, ◌+◌, ◌-◌, ◌<◌, ◌≤◌, List, [], ◌++◌, length, sym, refl, ap, ◌∙◌, append_assoc, append-nil, arith}
+use Rattle.std.proofs.Common.{◌≡◌, ℕ, ◌+◌, ◌-◌, ◌<◌, ◌≤◌, List, [], ◌++◌, length, sym, ap, ◌∙◌, append_assoc, append-nil, arith}
 use native.Mathlib.Nat.{sub-zero}
 use Rattle.std.proofs.lemmas.List.{length-append}
 use Rattle.format.specs.Places.{put}
@@ -9,7 +9,7 @@ use Rattle.format.specs.Items.{read_items, row}
 use Rattle.format.proofs.AnswerLaws.{both_parts, good-same}
 use Rattle.format.proofs.PutLaws.{put_nil, put-put}
 use Rattle.kind.specs.Asked.{Copyable}
-use Rattle.rows.proofs.ReadLeft.{HeadAt, head-none, head_more, head-seated, left-suc, left-zero}
+use Rattle.rows.proofs.ReadLeft.{HeadAt, head-none, head_more, head-seated, left_suc, left_zero}
 
 -- of n items from p on, i are copied, and out is the first buffer with their sheets put there up to e
 pub record CopyLeft (m : Meaning) (n : ℕ) (a : List ℕ) (p : ℕ) (first : List ℕ) (to i q : ℕ) (out : List ℕ) (e : ℕ) : Type 0 where
@@ -39,7 +39,7 @@ copy_none m n a p out to c = record {
 module _ {m : Meaning} {n : ℕ} {a : List ℕ} {p : ℕ} {first : List ℕ} {to i q : ℕ} {out : List ℕ} {e : ℕ} (l : CopyLeft m n a p first to i q out e) where
   module _ (h : i < n) where
     next : (s : List ℕ) × ((m.reading a q ≡ good s) × (both (read_items m (n - (i + 1)) a (q + m.size)) (λ r. good (s ++ r)) ≡ good l.rest))
-    next = both_parts (m.reading a q) _ l.rest (sym (ap (λ z. read_items m z a q) (left-suc n i h)) ∙ l.left)
+    next = both_parts (m.reading a q) _ l.rest (sym (ap (λ z. read_items m z a q) (left_suc n i h)) ∙ l.left)
 
     others : (r : List ℕ) × ((read_items m (n - (i + 1)) a (q + m.size) ≡ good r) × (good (next.0 ++ r) ≡ good l.rest))
     others = both_parts (read_items m (n - (i + 1)) a (q + m.size)) _ l.rest next.1.1
@@ -81,6 +81,6 @@ module _ {m : Meaning} {n : ℕ} {a : List ℕ} {p : ℕ} {first : List ℕ} {to
 
   pub copy_all : n ≤ i → (s : List ℕ) → read_items m n a p ≡ good s → (out ≡ put first to s) × (e ≡ to + length s)
   copy_all h s r =
-      let nil : [] ≡ l.rest = good-same _ _ (sym (ap (λ z. read_items m z a q) (left-zero n i h)) ∙ l.left) in
+      let nil : [] ≡ l.rest = good-same _ _ (sym (ap (λ z. read_items m z a q) (left_zero n i h)) ∙ l.left) in
       let same : l.done ≡ s = good-same _ _ (ap good (sym (append-nil l.done) ∙ ap (λ z. l.done ++ z) nil) ∙ (sym l.whole ∙ r)) in
       (l.is ∙ ap (put first to) same, l.end ∙ ap (λ z. to + length z) same)

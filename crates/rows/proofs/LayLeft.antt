@@ -1,7 +1,7 @@
 -- A row that is laid out or filled in item by item: what is done, and what is left. Assumes nothing.
-use Rattle.std.proofs.Common.{◌≡◌, ℕ, zero, suc, ◌+◌, ◌*◌, ◌%◌, ◌≤◌, max, List, [], ◌++◌, length, sym, refl, ap, ◌∙◌, subst, append_assoc, append-nil, add-zero, arith}
+use Rattle.std.proofs.Common.{◌≡◌, ℕ, zero, suc, ◌+◌, ◌%◌, ◌≤◌, max, List, [], ◌++◌, length, sym, refl, ap, ◌∙◌, subst, append_assoc, append-nil, add-zero, arith}
 use Rattle.std.proofs.lemmas.List.{length-append}
-use Rattle.format.specs.Places.{limit, stop, put, Bytes}
+use Rattle.format.specs.Places.{put, Bytes}
 use Rattle.format.specs.Meaning.{Meaning, Laid, Keeps, Laws}
 use Rattle.format.specs.Items.{first_of, rest_of, beside, lay_items, row}
 use Rattle.format.proofs.AnswerLaws.{good-same}

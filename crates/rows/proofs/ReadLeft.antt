@@ -10,11 +10,11 @@ use Rattle.format.proofs.RoundLaws.{mod_sum}
 use Rattle.kind.specs.Asked.{Seated, length_read, Always}
 
 -- how many items are left
-pub left-suc : (n i : ℕ) → i < n → n - i ≡ suc (n - (i + 1))
-left-suc n i h = omega arith
+pub left_suc : (n i : ℕ) → i < n → n - i ≡ suc (n - (i + 1))
+left_suc n i h = omega arith
 
-pub left-zero : (n i : ℕ) → n ≤ i → n - i ≡ 0
-left-zero n i h = omega arith
+pub left_zero : (n i : ℕ) → n ≤ i → n - i ≡ 0
+left_zero n i h = omega arith
 
 -- q is the head behind i items from p on
 pub record HeadAt (m : Meaning) (p i q : ℕ) : Type 0 where
@@ -57,14 +57,14 @@ module _ {m : Meaning} {n : ℕ} {a : List ℕ} {p i q : ℕ} (l : ShallowLeft m
   pub shallow-more : Keeps m → i < n → (r z : ℕ) → m.shallow a q ≡ good r → z ≡ m.size → ShallowLeft m n a p (i + 1) (q + z)
   shallow-more k h r z e f = record {
     head = head_more k l.head z f;
-    whole = l.whole ∙ (ap (λ z. shallow_items m z a q) (left-suc n i h) ∙ (both-good (m.shallow a q) r _ e ∙ ap (λ z. shallow_items m (n - (i + 1)) a (q + z)) (sym f)));
+    whole = l.whole ∙ (ap (λ z. shallow_items m z a q) (left_suc n i h) ∙ (both-good (m.shallow a q) r _ e ∙ ap (λ z. shallow_items m (n - (i + 1)) a (q + z)) (sym f)));
   }
 
   pub shallow-bad : i < n → (f : Fault) → m.shallow a q ≡ bad f → shallow_items m n a p ≡ bad f
-  shallow-bad h f e = l.whole ∙ (ap (λ z. shallow_items m z a q) (left-suc n i h) ∙ both-bad (m.shallow a q) f _ e)
+  shallow-bad h f e = l.whole ∙ (ap (λ z. shallow_items m z a q) (left_suc n i h) ∙ both-bad (m.shallow a q) f _ e)
 
   pub shallow_all : n ≤ i → shallow_items m n a p ≡ good q
-  shallow_all h = l.whole ∙ ap (λ z. shallow_items m z a q) (left-zero n i h)
+  shallow_all h = l.whole ∙ ap (λ z. shallow_items m z a q) (left_zero n i h)
 
 -- all that is read from each head: t bytes, and what is left
 abbrev most : ℕ
@@ -107,7 +107,7 @@ one-bad t f (good s) y e = let z : ◌≡◌ {A = ℕ} 0 1 = cc in absurd (omega
 
 module _ {m : Meaning} {n : ℕ} {a : List ℕ} {p i q t : ℕ} (l : DeepLeft m n a p i q t) where
   next : i < n → length_read (read_items m n a p) ≡ after t (length_read (read_items m (suc (n - (i + 1))) a q))
-  next h = l.whole ∙ ap (λ z. after t (length_read (read_items m z a q))) (left-suc n i h)
+  next h = l.whole ∙ ap (λ z. after t (length_read (read_items m z a q))) (left_suc n i h)
 
   pub deep_more : Keeps m → i < n → (d u z : ℕ) → length_read (m.reading a q) ≡ good d → u ≡ min (t + d) most → z ≡ m.size → DeepLeft m n a p (i + 1) (q + z) u
   deep_more k h d u z e f g = record {
@@ -123,7 +123,7 @@ module _ {m : Meaning} {n : ℕ} {a : List ℕ} {p i q t : ℕ} (l : DeepLeft m 
   deep_all h =
       let c = l.capped in
       let k : min (t + min 0 most) most ≡ t = omega arith in
-      l.whole ∙ (ap (λ z. after t (length_read (read_items m z a q))) (left-zero n i h) ∙ ap good k)
+      l.whole ∙ (ap (λ z. after t (length_read (read_items m z a q))) (left_zero n i h) ∙ ap good k)
 
 -- items that are always read, with a sheet of k bytes each
 pub deep_always : (m : Meaning) (k : ℕ) → Always m (Some k) → (n : ℕ) (a : List ℕ) (p : ℕ) → length_read (read_items m n a p) ≡ good (min (k * n) most)

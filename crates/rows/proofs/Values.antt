@@ -1,6 +1,6 @@
 -- The values of a row, one after another, by their places in a sheet. Assumes nothing.
-use Rattle.std.proofs.Common.{◌≡◌, ℕ, suc, ◌+◌, ◌≤◌, List, [], ◌∷◌, ◌++◌, length, get_or, take, drop, sym, refl, ap, ◌∙◌, subst, ap₂, append-nil, arith, w8, Fits}
-use Rattle.std.proofs.lemmas.List.{length-take-le, length-drop, take_at, drop_at, drop-drop}
+use Rattle.std.proofs.Common.{◌≡◌, ℕ, suc, ◌+◌, List, [], ◌∷◌, ◌++◌, get_or, take, drop, sym, refl, ap, ◌∙◌, subst, ap₂, append-nil, arith, w8, Fits}
+use Rattle.std.proofs.lemmas.List.{length-take-le, take_at, drop_at, drop-drop}
 use Rattle.format.specs.Places.{Bytes}
 use Rattle.format.specs.Answers.{Answer, Fault, good, bad, both, shifted}
 use Rattle.format.specs.Sheets.{at_place}

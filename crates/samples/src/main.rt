@@ -2,7 +2,7 @@
 #![tactic(auto)]
 
 ghost use Rattle.std.specs.Prelude.{◌≡◌};
-ghost use Rattle.format.specs.Samples.{Worked};
+ghost use Rattle.format.specs.Samples.{Worked, Stepped};
 
 use archive::{is_valid, is_valid_deep};
 use endian::order::{BigEndian, Endian, LittleEndian};
@@ -19,6 +19,7 @@ use utf8::is_text;
 pub fn worked_samples() -> u8
     ensures facts { Worked }
     ensures count { result ≡ 19 }
+    ensures steps { Stepped }
 {
     19
 }

@@ -1,5 +1,5 @@
 -- What the forms and the words of the code say. Assumes nothing.
-use Rattle.std.specs.Prelude.{ℕ, Bool, cond, List}
+use Rattle.std.specs.Prelude.{ℕ, Bool, cond}
 use Rattle.format.specs.Sheets as sheets
 use Rattle.format.specs.Sheets.{number_form, truth_form, character_form, text_form, inline_form, pointer_form, array_form, far_array_form, slice_form, number_word, text_word, count_word}
 use Rattle.sheet.specs.declared.word.Form.{Form}

@@ -1,12 +1,11 @@
 -- A byte that is stored twice keeps the laws of a kind. Assumes nothing.
 use Rattle.std.specs.Prelude.{◌≡◌, ℕ, ◌+◌, ◌<◌, ◌≤◌, List, [], ◌∷◌, ◌++◌, length, drop, ◌==◌, slice_index, slice_index_or, refl}
-use Rattle.std.proofs.Common.{sym, ap, ap₂, ◌∙◌, add-zero, arith, lit≤, lit<}
-use Rattle.std.proofs.Math.Nat.{mod-one}
+use Rattle.std.proofs.Common.{sym, ap, ◌∙◌, add-zero, arith, lit≤, lit<}
 use Rattle.std.proofs.lemmas.List.{get_or_append_left, get_or-take, get_or-drop}
 use Rattle.std.proofs.lemmas.Bool.{eq-eqb}
-use Rattle.format.specs.Places.{Holds, Alignment, part}
+use Rattle.format.specs.Places.{Holds, Alignment}
 use Rattle.format.specs.Answers.{good, fault, unless, both}
-use Rattle.format.specs.Sheets.{scan_number, number_of, number_sheet, any}
+use Rattle.format.specs.Sheets.{number_of, number_sheet, any}
 use Rattle.format.specs.Meaning.{Laws}
 use Rattle.format.proofs.AnswerLaws.{unless-true, both-good}
 use Rattle.format.proofs.FrontLaws.{scan_number-ends}

@@ -2,7 +2,7 @@
 use Rattle.std.specs.Prelude.{ℕ, ◌+◌, List, [], ◌∷◌, ◌==◌, slice_index}
 use Rattle.format.specs.Answers.{Answer, good, fault, unless, both}
 use Rattle.format.specs.Sheets.{scan_number, number_of, number_sheet, any}
-use Rattle.format.specs.Meaning.{Meaning, Laid}
+use Rattle.format.specs.Meaning.{Meaning}
 
 -- T2
 abbrev pub twice_mark : List ℕ

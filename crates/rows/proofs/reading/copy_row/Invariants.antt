@@ -1,4 +1,3 @@
-use Rattle.rows.proofs.ReadLeft.{HeadAt}
 use Rattle.rows.proofs.CopyLeft.{CopyLeft}
 use Rattle.rows.proofs.reading.copy_row.Given as goal
 

@@ -1,7 +1,7 @@
 use Rattle.std.proofs.Common.{sym, arith}
 use native.Mathlib.Nat.{sub-zero}
 use Rattle.rows.proofs.Values.{typed_bytes}
-use Rattle.rows.proofs.ReadLeft.{left-suc, left-zero}
+use Rattle.rows.proofs.ReadLeft.{left_suc, left_zero}
 use Rattle.rows.proofs.LayLeft.{fill_left, fill_none, fill_item, fill_more, fill_all}
 use Rattle.rows.proofs.sheets.fill_row.Goals as goal
 
@@ -12,19 +12,19 @@ loop-init g c =
 
 pub fill-end-requires : goal.fill-end-requires
 fill-end-requires g c =
-    fill_item (fill_left (left-suc c.args.count c.loop.counter c.loop-test.true) c.loop.invariant) (g.met.K.Kind.lawful c.args.item.now) (typed_bytes c.args.sheet.now c.type_inv.sheet)
+    fill_item (fill_left (left_suc c.args.count c.loop.counter c.loop-test.true) c.loop.invariant) (g.met.K.Kind.lawful c.args.item.now) (typed_bytes c.args.sheet.now c.type_inv.sheet)
 
 pub overflow_add-place : goal.overflow_add-place
 overflow_add-place g c =
-    let f = fill_item (fill_left (left-suc c.args.count c.loop.counter c.loop-test.true) c.loop.invariant) (g.met.K.Kind.lawful c.args.item.now) (typed_bytes c.args.sheet.now c.type_inv.sheet) in
+    let f = fill_item (fill_left (left_suc c.args.count c.loop.counter c.loop-test.true) c.loop.invariant) (g.met.K.Kind.lawful c.args.item.now) (typed_bytes c.args.sheet.now c.type_inv.sheet) in
     omega (arith, f.behind, f.starts, f.capped)
 
 pub loop-preserved : goal.loop-preserved
 loop-preserved g c =
-    fill_more (fill_left (left-suc c.args.count c.loop.counter c.loop-test.true) c.loop.invariant) (g.met.K.Kind.lawful c.args.item.now) (typed_bytes c.args.sheet.now c.type_inv.sheet)
+    fill_more (fill_left (left_suc c.args.count c.loop.counter c.loop-test.true) c.loop.invariant) (g.met.K.Kind.lawful c.args.item.now) (typed_bytes c.args.sheet.now c.type_inv.sheet)
     c.fill-end.new.at c.fill-end.new.out c.fill-end.result c.size-size.result c.fill-end.ensures.next c.fill-end.ensures.bytes c.fill-end.ensures.end c.size-size.ensures c.fill-end.auto.out
 
 pub returns : goal.returns
 returns g c =
-    let r = fill_all (fill_left (left-zero c.args.count c.loop.counter c.loop-test.false) c.loop.invariant) in
+    let r = fill_all (fill_left (left_zero c.args.count c.loop.counter c.loop-test.false) c.loop.invariant) in
     record { bytes = r.0; end = r.1; next = r.2 }

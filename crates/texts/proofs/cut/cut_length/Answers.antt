@@ -1,4 +1,4 @@
-use Rattle.std.proofs.Common.{length, sym, ap, ◌∙◌, arith}
+use Rattle.std.proofs.Common.{length, sym, ◌∙◌, arith}
 use Rattle.std.proofs.lemmas.List.{take_all}
 use Rattle.format.proofs.CutLaws.{cut_fits}
 use Rattle.texts.proofs.Cuts.{cut_on, cut-here, cut_at}

@@ -1,4 +1,4 @@
-use Rattle.std.proofs.Common.{◌≡◌, ◌<◌, ◌≤◌, length}
+use Rattle.std.proofs.Common.{◌≡◌, ◌<◌, length}
 use Rattle.format.specs.Texts.{cut}
 use Rattle.texts.proofs.cut.cut_length.Given as goal
 

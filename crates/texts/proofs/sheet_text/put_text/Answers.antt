@@ -1,4 +1,4 @@
-use Rattle.std.proofs.Common.{◌≡◌, ◌≤◌, length, arith}
+use Rattle.std.proofs.Common.{arith}
 use Rattle.texts.proofs.Facts.{put-sheet, sheet-length}
 use Rattle.texts.proofs.sheet_text.put_text.Goals as goal
 

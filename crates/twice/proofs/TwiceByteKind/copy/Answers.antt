@@ -3,7 +3,7 @@ use Rattle.format.specs.Answers.{good, both}
 use Rattle.format.specs.Places.{put}
 use Rattle.format.specs.Sheets.{number_sheet}
 use Rattle.format.proofs.AnswerLaws.{both_parts, unless_parts, good-same}
-use Rattle.format.proofs.FoundLaws.{copied, sheet-length}
+use Rattle.format.proofs.FoundLaws.{copied}
 use Rattle.twice.specs.Twice.{twice_mark, byte_at}
 use Rattle.twice.proofs.TwiceByteKind.copy.Goals as goal
 

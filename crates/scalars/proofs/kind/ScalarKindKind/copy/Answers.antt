@@ -1,4 +1,4 @@
-use Rattle.std.proofs.Common.{◌≡◌, ℕ, ◌+◌, ◌≤◌, length, sym, ap, ◌∙◌, arith}
+use Rattle.std.proofs.Common.{◌+◌, ◌≤◌, length, sym, ap, ◌∙◌, arith}
 use Rattle.format.specs.Sheets.{number_sheet}
 use Rattle.format.proofs.FoundLaws.{copied, sheet-length}
 use Rattle.scalars.proofs.Facts.{read}

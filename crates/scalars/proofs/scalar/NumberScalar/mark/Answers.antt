@@ -1,4 +1,4 @@
-use Rattle.std.proofs.Common.{◌≡◌, ℕ, ◌⊎◌, sym, ap, ◌∙◌, inl, inr, ⊎_elim}
+use Rattle.std.proofs.Common.{◌≡◌, ℕ, sym, ap, ◌∙◌, ⊎_elim}
 use Rattle.format.specs.Orders.{Width}
 use Rattle.format.specs.Sheets.{number_mark}
 use Rattle.format.proofs.OrderLaws.{width_cases}
