@@ -1,8 +1,8 @@
 // The kinds of one scalar: numbers, truths and characters, in any byte order.
 #![tactic(auto)]
 
-mod kind;
 mod scalar;
+mod scalar_kind;
 
-pub use kind::ScalarKind;
 pub use scalar::{Character, Number, Scalar, Truth};
+pub use scalar_kind::ScalarKind;

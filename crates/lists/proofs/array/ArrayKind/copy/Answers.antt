@@ -1,7 +1,7 @@
 use Rattle.std.proofs.Common.{refl, arith}
 use Rattle.format.specs.Sheets.{array_mark}
 use Rattle.format.specs.Items.{row}
-use Rattle.holding.proofs.Through.{held_parts, held_copyable, held-copied}
+use Rattle.holding.proofs.Through.{held_parts, held-copied}
 use Rattle.lists.proofs.array.ArrayKind.copy.Goals as goal
 
 pub returns : goal.returns

@@ -1,4 +1,4 @@
-use Rattle.std.proofs.Common.{◌≡◌, ◌+◌, ◌++◌, sym, ap, ◌∙◌, arith}
+use Rattle.std.proofs.Common.{◌+◌, ◌++◌, sym, ap, ◌∙◌, arith}
 use Rattle.format.specs.Orders.{low_first}
 use Rattle.format.specs.Sheets.{slice_mark}
 use Rattle.format.specs.Items.{row}

@@ -1,4 +1,4 @@
-use Rattle.std.proofs.Common.{◌≡◌, ◌+◌, ◌-◌, sym, ap, ◌∙◌, arith}
+use Rattle.std.proofs.Common.{◌+◌, ◌-◌, sym, ap, ◌∙◌, arith}
 use Rattle.format.specs.Places.{up, put, zeros}
 use Rattle.rows.proofs.Values.{typed_bytes}
 use Rattle.lists.proofs.SliceCalls.{slice-room, slice-next, slice-reach, slice-within, slice-fillable, slice-filled}

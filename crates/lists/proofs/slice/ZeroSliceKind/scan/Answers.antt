@@ -1,4 +1,4 @@
-use Rattle.std.proofs.Common.{◌≡◌, ◌+◌, length, sym, ap, ◌∙◌, arith}
+use Rattle.std.proofs.Common.{◌+◌, length, sym, ap, ◌∙◌, arith}
 use Rattle.format.specs.Answers.{inside}
 use Rattle.holding.proofs.Fronts.{within_held}
 use Rattle.lists.proofs.SliceCalls.{slice-scan}

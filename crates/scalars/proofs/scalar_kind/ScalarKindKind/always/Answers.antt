@@ -1,6 +1,6 @@
 use Rattle.std.proofs.Common.{T, sym, subst}
 use Rattle.scalars.proofs.Facts.{always_length}
-use Rattle.scalars.proofs.kind.ScalarKindKind.always.Goals as goal
+use Rattle.scalars.proofs.scalar_kind.ScalarKindKind.always.Goals as goal
 
 pub returns-then-all_valid : goal.returns-then-all_valid
 returns-then-all_valid g c =

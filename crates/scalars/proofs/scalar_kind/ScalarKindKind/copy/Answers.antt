@@ -2,7 +2,7 @@ use Rattle.std.proofs.Common.{◌+◌, ◌≤◌, length, sym, ap, ◌∙◌, ar
 use Rattle.format.specs.Sheets.{number_sheet}
 use Rattle.format.proofs.FoundLaws.{copied, sheet-length}
 use Rattle.scalars.proofs.Facts.{read}
-use Rattle.scalars.proofs.kind.ScalarKindKind.copy.Goals as goal
+use Rattle.scalars.proofs.scalar_kind.ScalarKindKind.copy.Goals as goal
 
 pub put_at-requires : goal.put_at-requires
 put_at-requires g c =

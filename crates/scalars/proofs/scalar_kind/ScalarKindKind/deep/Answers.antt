@@ -1,5 +1,5 @@
 use Rattle.scalars.proofs.Facts.{deep-length}
-use Rattle.scalars.proofs.kind.ScalarKindKind.deep.Goals as goal
+use Rattle.scalars.proofs.scalar_kind.ScalarKindKind.deep.Goals as goal
 
 pub returns : goal.returns
 returns g c =

@@ -4,7 +4,7 @@ use Rattle.format.specs.Places.{put}
 use Rattle.format.specs.Orders.{Order}
 use Rattle.format.proofs.PutLaws.{put_nil}
 use Rattle.format.proofs.FoundLaws.{found}
-use Rattle.scalars.proofs.kind.ScalarKindKind.fill.Goals as goal
+use Rattle.scalars.proofs.scalar_kind.ScalarKindKind.fill.Goals as goal
 
 -- a head and no tail
 head_alone : (o : Order) (w n m : ℕ) (out new : List ℕ) (h t : ℕ) → n ≡ m → new ≡ put out h (o.lay w n) → new ≡ put (put out h (o.lay w m)) t []
