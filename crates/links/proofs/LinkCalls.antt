@@ -3,7 +3,7 @@ use Rattle.std.proofs.Common.{◌≡◌, ℕ, ◌+◌, ◌-◌, ◌≤◌, max, 
 use Rattle.format.specs.Places.{stop, up, zeros, put, Bytes}
 use Rattle.format.specs.Orders.{Order, Undoes}
 use Rattle.format.specs.Meaning.{Meaning, Keeps}
-use Rattle.format.specs.Links.{behind, far, link}
+use Rattle.format.specs.Links.{far, link}
 use Rattle.format.proofs.OrderLaws.{width_4}
 use Rattle.kind.specs.Asked.{value_at, Next, Askable, Foretold, Fillable, filled}
 use Rattle.holding.proofs.Fronts.{Held, held-there}

@@ -1,7 +1,7 @@
 use Rattle.std.proofs.Common.{refl, arith}
 use Rattle.format.specs.Sheets.{far_array_mark}
 use Rattle.format.specs.Items.{row}
-use Rattle.holding.proofs.Through.{reads, Reads, led_copyable, led_copied}
+use Rattle.holding.proofs.Through.{reads, led_copyable, led_copied}
 use Rattle.links.proofs.far_array.ZeroArrayKind.copy.Goals as goal
 
 pub led-place-requires : goal.led-place-requires

@@ -1,4 +1,4 @@
-use Rattle.std.proofs.Common.{◌≡◌, ◌-◌, sym, ap, ◌∙◌, arith}
+use Rattle.std.proofs.Common.{◌-◌, sym, ap, ◌∙◌, arith}
 use Rattle.format.specs.Places.{up, put, zeros}
 use Rattle.format.specs.Sheets.{far_array_mark}
 use Rattle.format.specs.Items.{row}

@@ -1,4 +1,4 @@
-use Rattle.std.proofs.Common.{◌≡◌, sym, subst, arith}
+use Rattle.std.proofs.Common.{sym, subst, arith}
 use Rattle.format.specs.Sheets.{far_array_mark}
 use Rattle.format.specs.Items.{row}
 use Rattle.format.proofs.RowLaws.{row_keeps}

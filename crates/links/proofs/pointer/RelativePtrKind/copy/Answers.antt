@@ -1,6 +1,6 @@
 use Rattle.std.proofs.Common.{refl, arith}
 use Rattle.format.specs.Sheets.{pointer_mark}
-use Rattle.holding.proofs.Through.{reads, Reads, led_copyable, led_copied}
+use Rattle.holding.proofs.Through.{reads, led_copyable, led_copied}
 use Rattle.links.proofs.pointer.RelativePtrKind.copy.Goals as goal
 
 pub led-requires : goal.led-requires

@@ -1,4 +1,4 @@
-use Rattle.std.proofs.Common.{◌≡◌, ◌-◌, sym, ap, ◌∙◌, arith}
+use Rattle.std.proofs.Common.{◌-◌, sym, ap, ◌∙◌, arith}
 use Rattle.format.specs.Places.{up, put, zeros}
 use Rattle.format.specs.Sheets.{pointer_mark}
 use Rattle.rows.proofs.Values.{typed_bytes}

@@ -1,4 +1,4 @@
-use Rattle.std.proofs.Common.{◌≡◌, sym, subst, arith}
+use Rattle.std.proofs.Common.{sym, subst, arith}
 use Rattle.format.specs.Sheets.{pointer_mark}
 use Rattle.format.specs.Links.{pointer}
 use Rattle.kind.specs.Asked.{Foretold}

@@ -1,4 +1,4 @@
-use Rattle.std.proofs.Common.{◌≡◌, ◌≤◌, length, sym, ap, ◌∙◌, arith}
+use Rattle.std.proofs.Common.{length, sym, ap, ◌∙◌, arith}
 use Rattle.format.specs.Answers.{inside}
 use Rattle.format.specs.Sheets.{pointer_mark}
 use Rattle.holding.proofs.Fronts.{behind-good, mark-end, within_held}
