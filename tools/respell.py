@@ -9,7 +9,6 @@ import glob
 import re
 import sys
 
-NAME = r"[A-Za-z_][\w']*"
 DASHED = re.compile(r"(?<![\w'◌-])(?:[A-Za-z_][\w']*)(?:-[\w']+)+(?![\w'◌-])")
 DECLARED = re.compile(r"^\s*(?:(?:abbrev|unfoldable|pub|opaque|private)\s+)*((?:[A-Za-z_][\w'-]*\s+)*?[A-Za-z_][\w'-]*)\s*:(?!:)")
 TYPE = re.compile(r"^\s*(?:pub\s+)?(?:record|data)\s+([A-Za-z_][\w'-]*)")
