@@ -1,8 +1,21 @@
 // Places in a buffer, and writes into a part of one, so that nothing above meets a raw write. Callers show that the part lies within it.
 #![tactic(auto)]
 
-ghost use Rattle.std.specs.Prelude.{◌≡◌, ◌+◌, ◌<◌, ◌≤◌, length};
+ghost use Rattle.std.specs.Prelude.{◌≡◌, ◌+◌, ◌<◌, ◌≤◌, length, nat_le};
 ghost use Rattle.format.specs.Places.{up, put, zeros};
+
+// The most bytes that an archive, a buffer, or a sheet that is built may have.
+pub const LIMIT: usize = 2_147_483_647;
+
+// Where sizes and ends stop: one past the limit.
+pub const STOP: usize = 2_147_483_648;
+
+// Whether so many bytes from a place on lie within a length. No sum of the two is taken, so none wraps.
+pub fn lies_within(length: usize, place: usize, count: usize) -> bool
+    ensures { result ≡ nat_le (place + count) length }
+{
+    count <= length && place <= length - count
+}
 
 // Puts bytes over those at a place.
 pub fn put_at(out: &mut [u8], at: usize, bytes: &[u8])
@@ -25,5 +38,5 @@ pub fn rounded(place: usize, align: usize) -> usize
     requires { (place ≤ 2147483648) × ((0 < align) × (align ≤ 4096)) }
     ensures { result ≡ up place align }
 {
-    (place + (align - 1)) / align * align
+    place.next_multiple_of(align)
 }
