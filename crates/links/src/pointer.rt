@@ -1,7 +1,9 @@
 // A distance to one value.
 ghost use Rattle.std.specs.Prelude.{◌≡◌};
-ghost use Rattle.format.specs.Links.{pointer};
+ghost use Rattle.format.specs.Links.{pointer, linked};
 ghost use Rattle.format.specs.Archive.{pointer_step};
+ghost use Rattle.refusal.specs.Told.{told};
+ghost use Rattle.kind.specs.Asked.{Seated};
 ghost use Rattle.format.proofs.LinkLaws.{pointer_laws};
 
 use crate::{ALIGN, SIZE};
@@ -28,6 +30,14 @@ impl<K: Kind, E: Endian> RelativePtr<K, E> {
             item,
             order: PhantomData,
         }
+    }
+
+    // Where the distance at a place leads, if the item sits there.
+    fn target(&self, archive: &[u8], at: usize) -> Result<usize, Refusal>
+        requires { Seated (pointer (K.Kind.meaning self.now.item) E.Endian.order) archive.now at }
+        ensures { told result ≡ linked (K.Kind.meaning self.now.item) E.Endian.order archive.now at }
+    {
+        follow::<E>(archive, at, self.item.size(), self.item.align())
     }
 }
 
@@ -71,12 +81,12 @@ impl<K: Kind, E: Endian> Kind for RelativePtr<K, E> {
     }
 
     fn shallow(&self, archive: &[u8], at: usize) -> Result<usize, Refusal> {
-        follow::<E>(archive, at, self.item.size(), self.item.align())?;
+        self.target(archive, at)?;
         Ok(at)
     }
 
     fn deep(&self, archive: &[u8], at: usize) -> Result<usize, Refusal> {
-        let place = follow::<E>(archive, at, self.item.size(), self.item.align())?;
+        let place = self.target(archive, at)?;
         behind_front(self.item.deep(archive, place), 2)
     }
 
@@ -90,7 +100,7 @@ impl<K: Kind, E: Endian> OneStep for RelativePtr<K, E> {
     ghost step = { λ k. pointer_step (K.Kind.meaning k.item) E.Endian.order };
 
     fn one_step<'a>(&self, archive: &'a [u8], at: usize) -> Result<Found<'a>, Refusal> {
-        let place = follow::<E>(archive, at, self.item.size(), self.item.align())?;
+        let place = self.target(archive, at)?;
         Ok(Found::Target { place })
     }
 }
