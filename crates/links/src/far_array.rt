@@ -80,7 +80,7 @@ impl<K: Kind, E: Endian> Kind for ZeroArray<K, E> {
     }
 
     fn layout(&self, sheet: &[u8], at: &mut usize, tail: usize) -> (usize, usize) {
-        *at = *at + 2;
+        *at += 2;
         let row = self.row();
         let start = far_tail(tail, row.size(), row.align());
         let (end, widest) = row.layout(sheet, at, start);
@@ -95,7 +95,7 @@ impl<K: Kind, E: Endian> Kind for ZeroArray<K, E> {
         head: usize,
         tail: usize,
     ) -> usize {
-        *at = *at + 2;
+        *at += 2;
         let row = self.row();
         let place = reach::<E>(out, head, tail, row.align());
         let start = place + row.size();

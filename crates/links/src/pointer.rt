@@ -60,7 +60,7 @@ impl<K: Kind, E: Endian> Kind for RelativePtr<K, E> {
     }
 
     fn layout(&self, sheet: &[u8], at: &mut usize, tail: usize) -> (usize, usize) {
-        *at = *at + 2;
+        *at += 2;
         let start = far_tail(tail, self.item.size(), self.item.align());
         let (end, widest) = self.item.layout(sheet, at, start);
         (end, widest.max(ALIGN))
@@ -74,7 +74,7 @@ impl<K: Kind, E: Endian> Kind for RelativePtr<K, E> {
         head: usize,
         tail: usize,
     ) -> usize {
-        *at = *at + 2;
+        *at += 2;
         let place = reach::<E>(out, head, tail, self.item.align());
         self.item
             .fill(sheet, at, out, place, place + self.item.size())

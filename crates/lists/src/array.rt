@@ -60,7 +60,7 @@ impl<K: Kind> Kind for Array<K> {
     }
 
     fn layout(&self, sheet: &[u8], at: &mut usize, tail: usize) -> (usize, usize) {
-        *at = *at + 2;
+        *at += 2;
         self.row().layout(sheet, at, tail)
     }
 
@@ -72,7 +72,7 @@ impl<K: Kind> Kind for Array<K> {
         head: usize,
         tail: usize,
     ) -> usize {
-        *at = *at + 2;
+        *at += 2;
         self.row().fill(sheet, at, out, head, tail)
     }
 

@@ -95,7 +95,7 @@ impl<K: Kind, E: Endian> Kind for ZeroSlice<K, E> {
 
     fn layout(&self, sheet: &[u8], at: &mut usize, tail: usize) -> (usize, usize) {
         let count = Width4::take_back::<LittleEndian>(sheet, *at + 2);
-        *at = *at + 6;
+        *at += 6;
         let row = self.row(count);
         let start = far_tail(tail, row.size(), row.align());
         let (end, widest) = row.layout(sheet, at, start);
@@ -111,7 +111,7 @@ impl<K: Kind, E: Endian> Kind for ZeroSlice<K, E> {
         tail: usize,
     ) -> usize {
         let count = Width4::take_back::<LittleEndian>(sheet, *at + 2);
-        *at = *at + 6;
+        *at += 6;
         Width4::lay::<E>(count, out, head);
         let row = self.row(count);
         let place = reach::<E>(out, head + 4, tail, row.align());
