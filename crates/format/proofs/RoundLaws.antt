@@ -1,6 +1,6 @@
 -- Laws of rounding up and of alignments. Assumes nothing.
 use Rattle.std.proofs.Common.{◌≡◌, ℕ, suc, ◌+◌, ◌-◌, ◌*◌, ◌/◌, ◌%◌, ◌^◌, ◌<◌, ◌≤◌, max, sym, ap, ◌∙◌, subst, ap₂, ⊎_elim, mod-lt, mul_assoc, suc-mul, div-add-mod', arith, pow_pos, pow_mono, pow-add}
-use native.Mathlib.Nat.{mul-mod_left, add-mod, zero-mod, mod-add-div, add-mul-mod_self_left}
+use native.Mathlib.Nat.{mul-mod_left, mul-le-mul_right, add-mod, zero-mod, mod-add-div, add-mul-mod_self_left}
 use lib.Pow.{pow-lt, mod-mod-pow}
 use Rattle.std.proofs.lemmas.Bool.{cases_lt}
 use Rattle.format.specs.Places.{stop, up, Alignment}
@@ -14,6 +14,22 @@ up_ge q a h =
 
 pub up-mod : (q a : ℕ) → up q a % a ≡ 0
 up-mod q a = mul-mod_left ((q + (a - 1)) / a) a
+
+-- no other multiple is that near
+pub up-least : (q a x : ℕ) → 1 ≤ a → q ≤ x → x < q + a → x % a ≡ 0 → x ≡ up q a
+up-least q a x h l u m =
+    let k = x / a in
+    let d = (q + (a - 1)) / a in
+    let e : k * a + x % a ≡ x = div-add-mod' x a in
+    let e' : k * a ≡ x = omega (arith, e, m) in
+    let f = up_ge q a h in
+    ⊎_elim
+        (λ (lt : k < d). let g : suc k * a ≤ d * a = mul-le-mul_right a lt in let s : suc k * a ≡ k * a + a = suc-mul k a in absurd (omega (arith, f, g, s, e', l, u)))
+        (λ (ge : d ≤ k). ⊎_elim
+            (λ (lt : d < k). let g : suc d * a ≤ k * a = mul-le-mul_right a lt in let s : suc d * a ≡ d * a + a = suc-mul d a in absurd (omega (arith, f, g, s, e', l, u)))
+            (λ (le : k ≤ d). sym e' ∙ ap (λ z. z * a) (omega arith))
+            (cases_lt d k))
+        (cases_lt k d)
 
 pub alignment_pos : (a : ℕ) → Alignment a → 1 ≤ a
 alignment_pos a (k, (h, e)) = subst (λ z. 1 ≤ z) (sym e) (pow_pos k)

@@ -11,8 +11,10 @@ ghost use Rattle.kind.specs.Asked.{value_at, Next, Askable, Foretold, Fillable, 
 
 use refusal::Refusal;
 
+mod count;
 mod found;
 
+pub use count::Count;
 pub use found::{Found, OneStep, Part};
 
 pub trait Kind {

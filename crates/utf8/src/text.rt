@@ -45,10 +45,7 @@ impl Recogniser {
     pub fn at_start(&self) -> bool
         ensures { result ≡ at_start_by (stands self.now.position) }
     {
-        match self.position {
-            Position::Start => true,
-            _ => false,
-        }
+        self.position == Position::Start
     }
 }
 
