@@ -8,14 +8,13 @@ use Rattle.format.proofs.BuilderLaws.{Sound}
 use Rattle.format.proofs.BuildLaws.{Ordered, ordered, build-found, build-value, build-done}
 use Rattle.kind.specs.Asked.{value_at, Fillable, filled}
 use Rattle.builder.specs.Model.{Growable}
-use Rattle.builder.proofs.Facts.{power}
 
 module _ (m : Meaning) (v : List ℕ) (b : Builder) (x : Change) (laws : Laws m) (s : Sound b) (bytes : Bytes v) (h : change b (build m v) ≡ good x) (buf : List ℕ) (own : length buf ≡ b.room) where
   order : Ordered m v b x
   order = ordered m v b x laws s bytes h
 
-  pub growable : Growable b buf x.answer x.used x.align
-  growable = let o = order in record { own = own; low = o.low; high = omega arith; room = o.room; power = power x.align o.power }
+  pub growable : Growable b buf x.answer x.used
+  growable = let o = order in record { own = own; low = o.low; high = omega arith; room = o.room }
 
   -- a tail's start as the code adds it up
   module _ (size : ℕ) (told : size ≡ m.size) where
