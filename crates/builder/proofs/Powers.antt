@@ -1,9 +1,9 @@
 -- The test of an alignment by its bits. Assumes nothing.
-use Rattle.std.proofs.Common.{◌≡◌, ℕ, zero, suc, ◌+◌, ◌*◌, ◌/◌, ◌%◌, ◌^◌, ◌<◌, ◌≤◌, max, Bool, true, false, sym, refl, ap, ◌∙◌, subst, ⊎_elim, div-add-mod', mod-lt, arith, pow_pos, pow-suc}
+use Rattle.std.proofs.Common.{◌≡◌, ℕ, zero, suc, ◌+◌, ◌*◌, ◌/◌, ◌%◌, ◌^◌, ◌<◌, ◌≤◌, max, true, false, sym, ap, ◌∙◌, subst, ⊎_elim, div-add-mod', mod-lt, arith, pow_pos, pow-suc}
 use Rattle.std.specs.Prelude.{count_ones}
 use Rattle.std.specs.Int.{is_power_of_two}
 use Rattle.std.proofs.lemmas.Nat.{zero_from_ones}
-use Rattle.std.proofs.lemmas.Bool.{eqb-true, eq-eqb, cases_lt}
+use Rattle.std.proofs.lemmas.Bool.{eqb-true, eq-eqb, false_from_ne_true, cases_lt}
 use lib.Count.{ones_step, ones_cat, ones-ones, ones-le}
 use lib.Pow.{pow-lt}
 use Rattle.format.specs.Places.{Alignment}
@@ -49,13 +49,9 @@ bit_of_power k =
 alignment-bit : (a : ℕ) → Alignment a → is_power_of_two a ≡ true
 alignment-bit a (k, (h, e)) = subst (λ z. is_power_of_two z ≡ true) (sym e) (bit_of_power k)
 
-unless_true : (b : Bool) → (b ≡ true → ⊥) → b ≡ false
-unless_true true h = absurd (h refl)
-unless_true false h = refl
-
 -- no other number may be asked for
 pub too_large : (n : ℕ) → 4096 < max 1 n → allowed n ≡ false
-too_large n h = unless_true (allowed n) (λ k. let small = alignment_most (max 1 n) (allowed-power n k) in absurd (omega arith))
+too_large n h = false_from_ne_true (allowed n) (λ k. let small = alignment_most (max 1 n) (allowed-power n k) in absurd (omega arith))
 
 pub other_bits : (n : ℕ) → is_power_of_two (max 1 n) ≡ false → allowed n ≡ false
-other_bits n h = unless_true (allowed n) (λ k. let one = alignment-bit (max 1 n) (allowed-power n k) in let z : true ≡ false = sym one ∙ h in absurd (cc))
+other_bits n h = false_from_ne_true (allowed n) (λ k. let one = alignment-bit (max 1 n) (allowed-power n k) in let z : true ≡ false = sym one ∙ h in absurd (cc))

@@ -1,5 +1,5 @@
 // How an archive grows: zeros up to the next place of an alignment, then what is added.
-ghost use Rattle.std.specs.Prelude.{◌≡◌, ◌+◌, ◌-◌, ◌≤◌, max, length, OnOk, ◌==◌, nat_le};
+ghost use Rattle.std.specs.Prelude.{◌≡◌, ◌+◌, ◌-◌, ◌≤◌, max, length, IfOk, OnOk, ◌==◌, nat_le};
 ghost use Rattle.format.specs.Places.{up, zeros, put};
 ghost use Rattle.format.specs.Answers.{good, fault, unless};
 ghost use Rattle.format.specs.Builder.{allowed, appended, done};
@@ -14,7 +14,8 @@ use buffer::{lies_within, put_zeros, rounded};
 use refusal::{Cause, Refusal};
 
 impl ZeroBuilder {
-    // That a buffer is as long as at the start.
+    // That a buffer is as long as at the start. What needs it asks it by a clause, since a struct that held builder and buffer would owe
+    // at each of them a clause on which builder and which buffer it holds.
     pub(crate) fn own(&self, length: usize) -> Result<usize, Refusal>
         ensures told { told result ≡ unless (length == self.now.room) (fault 2 0) (good length) }
         ensures same { OnOk result (length ≡ self.now.room) }
@@ -28,7 +29,7 @@ impl ZeroBuilder {
     // That so many bytes from a place on have room.
     pub(crate) fn reach(&self, place: usize, count: usize) -> Result<usize, Refusal>
         ensures told { told result ≡ unless (nat_le (place + count) self.now.room) (fault 4 0) (good place) }
-        ensures within { OnOk result (place + count ≤ self.now.room) }
+        ensures within { IfOk result (λ p. (p ≡ place) × (place + count ≤ self.now.room)) }
     {
         if !lies_within(self.room, place, count) {
             return Err(Refusal::whole(Cause::NoRoom));
@@ -76,13 +77,13 @@ impl ZeroBuilder {
         ensures { left result self.new buffer.new ≡ done (model self.old) buffer.old (appended (model self.old) alignment.bytes (bytes_of addition.entry)) }
     {
         let count = addition.count();
-        let place = self.next(alignment);
-        self.reach(place, count)?;
+        let place = self.reach(self.next(alignment), count)?;
         let align = self.widened(alignment);
         self.grow(buffer, place, place + count, align);
         addition.put(buffer, place);
         Ok(place)
     }
+
     // The same of an alignment that is asked for, in a buffer that is not yet known to be the one of the start.
     pub(crate) fn append_asked(
         &mut self,

@@ -26,4 +26,4 @@ invariant_of-widened g c =
 pub returns : goal.returns
 returns g c =
     sym (build-fits (model c.args.self.now) (g.K.Kind.meaning c.args.kind.now) c.args.sheet.now c.in_ok-whole.field-0 (sym c.in_ok-whole.ensures.told) c.next-place.result c.min-tail.result c.layout-end.result.0 c.layout-end.result.1
-    (c.next-place.ensures.place ∙ ap (up c.args.self.now.used) c.of.ensures) (c.min-tail.ensures ∙ ap (λ z. stop (c.next-place.result + z)) c.size.ensures) c.layout-end.ensures.foretold c.widened-align.result.bytes (subst (λ z. z ≤ c.args.self.now.room) (add-zero c.layout-end.result.0) c.in_ok-reach.ensures.within) c.widened-align.ensures)
+    (c.next-place.ensures.place ∙ ap (up c.args.self.now.used) c.of.ensures) (c.min-tail.ensures ∙ ap (λ z. stop (c.next-place.result + z)) c.size.ensures) c.layout-end.ensures.foretold c.widened-align.result.bytes (subst (λ z. z ≤ c.args.self.now.room) (add-zero c.layout-end.result.0) c.in_ok-reach.ensures.within.1) c.widened-align.ensures)
