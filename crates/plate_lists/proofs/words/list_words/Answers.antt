@@ -2,12 +2,12 @@ use Rattle.std.proofs.Common.{◌+◌, ◌-◌, map, ap, ◌∙◌, arith}
 use native.Mathlib.Nat.{sub-zero}
 use Rattle.std.proofs.lemmas.List.{map_push}
 use Rattle.sheet.specs.Words.{word_of, read_of}
-use Rattle.listing.specs.declared.error.ListError.TheVariants.{Memory, Refused}
-use Rattle.listing.proofs.ToldLaws.{tells_error}
-use Rattle.listing.proofs.ReadLaws.{rest_first, slice-bad, rest_more, text-bad, rest_none, end-bad}
-use Rattle.listing.proofs.BackLaws.{reads_back}
-use Rattle.listing.proofs.KindLaws.{scans_as_kind}
-use Rattle.listing.proofs.words.list_words.Goals as goal
+use Rattle.plate_lists.specs.declared.error.ListError.TheVariants.{Memory, Refused}
+use Rattle.plate_lists.proofs.ToldLaws.{tells_error}
+use Rattle.plate_lists.proofs.ReadLaws.{rest_first, slice-bad, rest_more, text-bad, rest_none, end-bad}
+use Rattle.plate_lists.proofs.BackLaws.{reads_back}
+use Rattle.plate_lists.proofs.KindLaws.{scans_as_kind}
+use Rattle.plate_lists.proofs.words.list_words.Goals as goal
 
 pub returns-in_err-slice : goal.returns-in_err-slice
 returns-in_err-slice c = record {

@@ -4,8 +4,8 @@ ghost use Rattle.refusal.specs.Told.{told_by};
 ghost use Rattle.format.specs.Answers.{inside};
 ghost use Rattle.format.specs.Sheets.{read_at, text_form};
 ghost use Rattle.sheet.specs.Words.{word_of, read_of};
-ghost use Rattle.listing.specs.Lists.{count_of, list_words as list_words_by, ReadsBack, ScansAsKind};
-ghost use Rattle.listing.specs.Told.{Tells};
+ghost use Rattle.plate_lists.specs.Lists.{count_of, list_words as list_words_by, ReadsBack, ScansAsKind};
+ghost use Rattle.plate_lists.specs.Told.{Tells};
 
 use crate::error::ListError;
 use refusal::Refusal;
@@ -26,10 +26,7 @@ fn followers(word: Word<'_>) -> u32
 fn held_text(sheet: &[u8], at: usize) -> Result<Read<'_>, Refusal>
     ensures { told_by read_of result ≡ inside (read_at text_form sheet.now at) }
 {
-    match sheet::read(sheet, at, Form::Text) {
-        Ok(read) => Ok(read),
-        Err(refusal) => Err(refusal.deeper()),
-    }
+    sheet::read(sheet, at, Form::Text).map_err(Refusal::deeper)
 }
 
 // A word for each text; that the slice itself stands at the front and nothing behind it is checked too.

@@ -1,5 +1,5 @@
 -- What was made from texts is read back as these texts, each at its place. Assumes nothing.
-use Rattle.std.proofs.Common.{◌≡◌, ℕ, ◌+◌, ◌≤◌, true, leb, List, [], ◌∷◌, ◌++◌, length, drop, sym, refl, ap, ◌∙◌, add-zero, arith}
+use Rattle.std.proofs.Common.{◌≡◌, ℕ, ◌+◌, ◌*◌, ◌≤◌, true, leb, List, [], ◌∷◌, ◌++◌, length, drop, sym, refl, ap, ◌∙◌, add-zero, arith}
 use Rattle.std.proofs.lemmas.List.{drop-drop, drop_at, length-append}
 use Rattle.std.proofs.lemmas.Bool.{le-leb}
 use Rattle.format.specs.Places.{limit}
@@ -8,8 +8,12 @@ use Rattle.format.specs.Answers.{good, both, inside}
 use Rattle.format.specs.Sheets.{slice_mark, text_mark, text_sheet, number_of, marked, scan_text, text_of, text_word, count_word, at_place, read_at, slice_form, text_form, ended}
 use Rattle.format.proofs.AnswerLaws.{unless-true, both-good, at_place-good}
 use Rattle.format.proofs.ScanLaws.{marked_written, number_written, text_written, scan_written}
-use Rattle.listing.specs.Lists.{texts_row, texts_at, words_from, AllText, ReadsBack}
-use Rattle.listing.proofs.WrittenLaws.{length-row}
+use Rattle.plate_lists.specs.Lists.{texts_row, texts_at, words_from, AllText, ReadsBack}
+
+-- a text takes six bytes at least
+length-row : (ls : List (List ℕ)) → 6 * length ls ≤ length (texts_row ls)
+length-row [] = omega arith
+length-row (l ∷ ls) = let h = length-row ls in let k = length-append l (texts_row ls) in omega arith
 
 -- the text l at p, and what follows it
 module _ (s : List ℕ) (p : ℕ) (l row : List ℕ) (front : drop p s ≡ text_sheet text_mark l ++ row) where

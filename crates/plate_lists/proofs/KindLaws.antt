@@ -8,7 +8,7 @@ use Rattle.format.specs.Sheets.{slice_mark, text_mark, number_of, marked, scan_t
 use Rattle.format.specs.Items.{scan_items}
 use Rattle.format.specs.Texts.{text_kind}
 use Rattle.format.proofs.SheetLaws.{marked-end, scan_text-end}
-use Rattle.listing.specs.Lists.{Texts, with_word, texts_at, count_of, ScansAsKind}
+use Rattle.plate_lists.specs.Lists.{Texts, with_word, texts_at, count_of, ScansAsKind}
 
 -- a scan behind another is a scan from where that one ends
 shifted-twice : (p e : ℕ) (y : Answer ℕ) → shifted (p + e) (both y (λ r. good (p + e + r))) ≡ shifted p (both (shifted e (both y (λ r. good (e + r)))) (λ k. good (p + k)))

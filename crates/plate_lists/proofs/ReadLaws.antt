@@ -4,7 +4,7 @@ use Rattle.std.proofs.lemmas.List.{append-nil}
 use Rattle.format.specs.Answers.{Answer, Fault, good, bad, both, inside}
 use Rattle.format.specs.Sheets.{Word, Read, read_at, slice_form, text_form, ended}
 use Rattle.format.proofs.AnswerLaws.{both-good, both-bad}
-use Rattle.listing.specs.Lists.{Texts, with_word, texts_at, count_of, list_words}
+use Rattle.plate_lists.specs.Lists.{Texts, with_word, texts_at, count_of, list_words}
 
 -- the answer where ws are the words so far, and n texts are left from p on
 abbrev pub rest : List Word → ℕ → List ℕ → ℕ → Answer (List Word)
