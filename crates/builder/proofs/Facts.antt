@@ -6,15 +6,17 @@ use Rattle.format.proofs.RoundLaws.{alignment_pos}
 use Rattle.format.proofs.BuilderLaws.{Sound, allowed-power}
 use Rattle.format.proofs.BuildLaws.{alignment-allowed}
 use Rattle.builder.specs.declared.ZeroBuilder.{ZeroBuilder}
-use Rattle.builder.specs.Model.{model, Power}
+use Rattle.builder.specs.Alignments.{Power}
+use Rattle.builder.specs.Model.{model}
 
 pub sound : (b : ZeroBuilder) → Sound (model b)
 sound b = record {
   inside = b.inside;
   within = b.within;
   power =
+      let p = b.power in
       let e : max 1 b.align ≡ b.align = omega arith in
-      subst Alignment e (allowed-power b.align b.power);
+      subst Alignment e (allowed-power b.align p.listed);
 }
 
 pub power : (a : ℕ) → Alignment a → Power a

@@ -1,2 +1,3 @@
 mod Facts
+mod Powers
 mod Commits

@@ -1,1 +1,3 @@
+pub mod Additions
+pub mod Alignments
 pub mod Model

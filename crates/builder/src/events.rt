@@ -5,9 +5,10 @@ ghost use Rattle.format.specs.Life.{LivesWell};
 ghost use Rattle.refusal.specs.Told.{told_by};
 ghost use Rattle.builder.specs.Model.{model, left, finished_of};
 
-use crate::growth::checked;
-use crate::{Finished, LIMIT, ZeroBuilder};
-use buffer::put_at;
+use crate::addition::Addition;
+use crate::alignment::Alignment;
+use crate::{Finished, ZeroBuilder};
+use buffer::{LIMIT, lies_within, put_at};
 use kind::Kind;
 use refusal::{Cause, Refusal};
 
@@ -30,9 +31,7 @@ impl ZeroBuilder {
     pub fn align(&mut self, buffer: &mut [u8], alignment: usize) -> Result<usize, Refusal>
         ensures { left result self.new buffer.new ≡ step (aligns alignment) (model self.old) buffer.old }
     {
-        self.own(buffer.len())?;
-        let alignment = checked(alignment)?;
-        self.append_zeros(buffer, alignment, 0)
+        self.reserve_bytes(buffer, 0, alignment)
     }
 
     // Zeros for a head of a kind; their place is told.
@@ -40,7 +39,7 @@ impl ZeroBuilder {
         ensures { left result self.new buffer.new ≡ step (reserves (K.Kind.meaning kind.now)) (model self.old) buffer.old }
     {
         self.own(buffer.len())?;
-        self.append_zeros(buffer, kind.align(), kind.size())
+        self.append(buffer, Alignment::of(kind), Addition::Zeros(kind.size()))
     }
 
     // So many zeros; their place is told.
@@ -52,9 +51,7 @@ impl ZeroBuilder {
     ) -> Result<usize, Refusal>
         ensures { left result self.new buffer.new ≡ step (reserves_bytes count alignment) (model self.old) buffer.old }
     {
-        self.own(buffer.len())?;
-        let alignment = checked(alignment)?;
-        self.append_zeros(buffer, alignment, count)
+        self.append_asked(buffer, alignment, Addition::Zeros(count))
     }
 
     // Puts bytes over those at a place of the archive.
@@ -62,7 +59,7 @@ impl ZeroBuilder {
         ensures { left result self.new buffer.new ≡ step (writes place bytes.now) (model self.old) buffer.old }
     {
         self.own(buffer.len())?;
-        if self.used < bytes.len() || self.used - bytes.len() < place {
+        if !lies_within(self.used, place, bytes.len()) {
             return Err(Refusal::whole(Cause::PastUsed));
         }
         put_at(buffer, place, bytes);
@@ -82,7 +79,7 @@ impl ZeroBuilder {
         if bytes.len() != kind.size() {
             return Err(Refusal::whole(Cause::WrongSize));
         }
-        self.append(buffer, kind.align(), bytes)
+        self.append(buffer, Alignment::of(kind), Addition::Bytes(bytes))
     }
 
     // Bytes as they are; their place is told.
@@ -94,9 +91,7 @@ impl ZeroBuilder {
     ) -> Result<usize, Refusal>
         ensures { left result self.new buffer.new ≡ step (pushes_bytes bytes.now alignment) (model self.old) buffer.old }
     {
-        self.own(buffer.len())?;
-        let alignment = checked(alignment)?;
-        self.append(buffer, alignment, bytes)
+        self.append_asked(buffer, alignment, Addition::Bytes(bytes))
     }
 
     // Ends the builder. Whatever life it had, this is what it leaves.

@@ -1,29 +1,21 @@
-// How an archive grows: zeros up to the next place of an alignment, then bytes.
+// How an archive grows: zeros up to the next place of an alignment, then what is added.
 ghost use Rattle.std.specs.Prelude.{◌≡◌, ◌+◌, ◌-◌, ◌≤◌, max, length, IfOk, OnOk, ◌==◌, nat_le};
 ghost use Rattle.format.specs.Places.{up, zeros, put};
 ghost use Rattle.format.specs.Answers.{good, fault, unless};
 ghost use Rattle.format.specs.Builder.{allowed, appended, done};
 ghost use Rattle.refusal.specs.Told.{told};
-ghost use Rattle.builder.specs.Model.{model, left, Power, Growable};
+ghost use Rattle.builder.specs.Additions.{bytes_of};
+ghost use Rattle.builder.specs.Model.{model, left, Growable};
 
 use crate::ZeroBuilder;
-use buffer::{put_at, put_zeros, rounded};
+use crate::addition::Addition;
+use crate::alignment::Alignment;
+use buffer::{lies_within, put_zeros, rounded};
 use refusal::{Cause, Refusal};
 
-// An alignment that may be asked for; 0 is taken as 1.
-pub(crate) fn checked(alignment: usize) -> Result<usize, Refusal>
-    ensures told { told result ≡ unless (allowed alignment) (fault 3 0) (good (max 1 alignment)) }
-    ensures power { IfOk result Power }
-{
-    match alignment {
-        0 | 1 => Ok(1),
-        2 | 4 | 8 | 16 | 32 | 64 | 128 | 256 | 512 | 1024 | 2048 | 4096 => Ok(alignment),
-        _ => Err(Refusal::whole(Cause::BadAlignment)),
-    }
-}
-
 impl ZeroBuilder {
-    // That a buffer is as long as at the start.
+    // That a buffer is as long as at the start. What needs it asks it by a clause, since a struct that held builder and buffer would owe
+    // at each of them a clause on which builder and which buffer it holds.
     pub(crate) fn own(&self, length: usize) -> Result<usize, Refusal>
         ensures told { told result ≡ unless (length == self.now.room) (fault 2 0) (good length) }
         ensures same { OnOk result (length ≡ self.now.room) }
@@ -34,89 +26,75 @@ impl ZeroBuilder {
         Ok(length)
     }
 
-    // That an archive may end there.
-    pub(crate) fn reach(&self, end: usize) -> Result<usize, Refusal>
-        ensures told { told result ≡ unless (nat_le end self.now.room) (fault 4 0) (good end) }
-        ensures within { OnOk result (end ≤ self.now.room) }
+    // That so many bytes from a place on have room.
+    pub(crate) fn reach(&self, place: usize, count: usize) -> Result<usize, Refusal>
+        ensures told { told result ≡ unless (nat_le (place + count) self.now.room) (fault 4 0) (good place) }
+        ensures within { IfOk result (λ p. (p ≡ place) × (place + count ≤ self.now.room)) }
     {
-        if self.room < end {
+        if !lies_within(self.room, place, count) {
             return Err(Refusal::whole(Cause::NoRoom));
         }
-        Ok(end)
-    }
-
-    // The next place of an alignment.
-    pub(crate) fn next(&self, alignment: usize) -> usize
-        requires { Power alignment }
-        ensures place { result ≡ up self.now.used alignment }
-        ensures low { self.now.used ≤ result }
-        ensures high { result ≤ 2147487743 }
-    {
-        rounded(self.used, alignment)
-    }
-
-    // The next place of an alignment, if so many bytes have room there.
-    fn place_for(&self, alignment: usize, count: usize) -> Result<usize, Refusal>
-        requires { Power alignment }
-        ensures told { told result ≡ unless (nat_le (up self.now.used alignment + count) self.now.room) (fault 4 0) (good (up self.now.used alignment)) }
-        ensures within { IfOk result (λ p. (self.now.used ≤ p) × (p + count ≤ self.now.room)) }
-    {
-        let place = self.next(alignment);
-        self.reach(place.saturating_add(count))?;
         Ok(place)
     }
 
+    // The next place of an alignment.
+    pub(crate) fn next(&self, alignment: Alignment) -> usize
+        ensures place { result ≡ up self.now.used alignment.bytes }
+        ensures low { self.now.used ≤ result }
+        ensures high { result ≤ 2147487743 }
+    {
+        rounded(self.used, alignment.bytes)
+    }
+
     // Zeros up to a place; the archive then has so many bytes and that alignment.
-    pub(crate) fn grow(&mut self, buffer: &mut [u8], place: usize, used: usize, align: usize)
-        requires { Growable (model self.old) buffer.old place used align }
-        ensures builder { model self.new ≡ record { used = used; align = align; room = self.old.room } }
+    pub(crate) fn grow(&mut self, buffer: &mut [u8], place: usize, used: usize, align: Alignment)
+        requires { Growable (model self.old) buffer.old place used }
+        ensures builder { model self.new ≡ record { used = used; align = align.bytes; room = self.old.room } }
         ensures bytes { buffer.new ≡ put buffer.old self.old.used (zeros (place - self.old.used)) }
     {
         put_zeros(buffer, self.used, place - self.used);
         self.used = used;
-        self.align = align;
+        self.align = align.bytes;
     }
 
     // The larger of the alignment so far and another.
-    pub(crate) fn widened(&self, alignment: usize) -> usize
-        requires { Power alignment }
-        ensures most { result ≡ max self.now.align alignment }
-        ensures power { Power result }
+    pub(crate) fn widened(&self, alignment: Alignment) -> Alignment
+        ensures { result.bytes ≡ max self.now.align alignment.bytes }
     {
-        self.align.max(alignment)
+        Alignment {
+            bytes: self.align.max(alignment.bytes),
+        }
     }
 
-    // Bytes at the next place of an alignment, which is told.
+    // What is added, at the next place of an alignment, which is told.
     pub(crate) fn append(
         &mut self,
         buffer: &mut [u8],
-        alignment: usize,
-        bytes: &[u8],
+        alignment: Alignment,
+        addition: Addition<'_>,
     ) -> Result<usize, Refusal>
-        requires { (length buffer.old ≡ self.old.room) × (Power alignment) }
-        ensures { left result self.new buffer.new ≡ done (model self.old) buffer.old (appended (model self.old) alignment bytes.now) }
+        requires { length buffer.old ≡ self.old.room }
+        ensures { left result self.new buffer.new ≡ done (model self.old) buffer.old (appended (model self.old) alignment.bytes (bytes_of addition.entry)) }
     {
-        let place = self.place_for(alignment, bytes.len())?;
+        let count = addition.count();
+        let place = self.reach(self.next(alignment), count)?;
         let align = self.widened(alignment);
-        self.grow(buffer, place, place + bytes.len(), align);
-        put_at(buffer, place, bytes);
+        self.grow(buffer, place, place + count, align);
+        addition.put(buffer, place);
         Ok(place)
     }
 
-    // So many zeros at the next place of an alignment, which is told.
-    pub(crate) fn append_zeros(
+    // The same of an alignment that is asked for, in a buffer that is not yet known to be the one of the start.
+    pub(crate) fn append_asked(
         &mut self,
         buffer: &mut [u8],
         alignment: usize,
-        count: usize,
+        addition: Addition<'_>,
     ) -> Result<usize, Refusal>
-        requires { (length buffer.old ≡ self.old.room) × (Power alignment) }
-        ensures { left result self.new buffer.new ≡ done (model self.old) buffer.old (appended (model self.old) alignment (zeros count)) }
+        ensures { left result self.new buffer.new ≡ done (model self.old) buffer.old (unless (length buffer.old == self.old.room) (fault 2 0) (unless (allowed alignment) (fault 3 0) (appended (model self.old) (max 1 alignment) (bytes_of addition.entry)))) }
     {
-        let place = self.place_for(alignment, count)?;
-        let align = self.widened(alignment);
-        self.grow(buffer, place, place + count, align);
-        put_zeros(buffer, place, count);
-        Ok(place)
+        self.own(buffer.len())?;
+        let alignment = Alignment::asked(alignment)?;
+        self.append(buffer, alignment, addition)
     }
 }

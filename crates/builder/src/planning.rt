@@ -6,20 +6,19 @@ ghost use Rattle.refusal.specs.Told.{told, told_by};
 ghost use Rattle.kind.specs.Asked.{value_at, Next, Fillable, filled};
 ghost use Rattle.builder.specs.Model.{model, left, planned};
 
-use crate::{LIMIT, ZeroBuilder};
+use crate::ZeroBuilder;
+use crate::alignment::Alignment;
+use buffer::{LIMIT, STOP};
 use kind::Kind;
 use refusal::{Cause, Refusal};
 use sheet::ended;
-
-// Where sizes and ends stop.
-const STOP: usize = 2_147_483_648;
 
 // The place of the head, and the used length and the alignment afterwards.
 #[derive(Clone, Copy)]
 struct Plan {
     place: usize,
     end: usize,
-    align: usize,
+    align: Alignment,
 }
 
 // Where the value of a sheet ends that is all of the sheet.
@@ -49,12 +48,12 @@ impl ZeroBuilder {
         ensures { told_by (planned (model self.now) (K.Kind.meaning kind.now) sheet.now) result ≡ change (model self.now) (builds (K.Kind.meaning kind.now) sheet.now) }
     {
         whole(kind, sheet)?;
-        let place = self.next(kind.align());
+        let place = self.next(Alignment::of(kind));
         let tail = (place + kind.size()).min(STOP);
         let mut at = 0;
         let (end, widest) = kind.layout(sheet, &mut at, tail);
-        self.reach(end)?;
-        let align = self.widened(widest);
+        self.reach(end, 0)?;
+        let align = self.widened(Alignment { bytes: widest });
         Ok(Plan { place, end, align })
     }
 

@@ -1,9 +1,9 @@
-use Rattle.std.proofs.Common.{ap, ◌∙◌, arith}
+use Rattle.std.proofs.Common.{ap, ◌∙◌}
 use Rattle.format.specs.Answers.{good}
 use Rattle.rows.proofs.Values.{typed_bytes}
 use Rattle.builder.specs.Model.{model, planned}
 use Rattle.builder.proofs.Facts.{sound}
-use Rattle.builder.proofs.Commits.{growable, tail-small, fillable, committed}
+use Rattle.builder.proofs.Commits.{growable, fillable, committed}
 use Rattle.builder.proofs.ZeroBuilder.commit.Goals as goal
 
 pub grow-requires : goal.grow-requires
@@ -12,14 +12,6 @@ grow-requires g c =
     let v = c.args.sheet.now in
     let b = model c.args.self.now in
     growable m v b (planned b m v c.args.plan) (g.met.K.Kind.lawful c.args.kind.now) (sound c.args.self.now) (typed_bytes v c.type_inv.sheet) c.requires.planned c.args.buffer.now c.requires.own
-
-pub overflow_add-plan : goal.overflow_add-plan
-overflow_add-plan g c =
-    let m = g.K.Kind.meaning c.args.kind.now in
-    let v = c.args.sheet.now in
-    let b = model c.args.self.now in
-    let small = tail-small m v b (planned b m v c.args.plan) (g.met.K.Kind.lawful c.args.kind.now) (sound c.args.self.now) (typed_bytes v c.type_inv.sheet) c.requires.planned c.args.buffer.now c.requires.own c.size.result c.size.ensures in
-    omega arith
 
 pub lay-requires : goal.lay-requires
 lay-requires g c =
