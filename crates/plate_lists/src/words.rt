@@ -37,6 +37,7 @@ pub fn list_words(heap: Global, sheet: &[u8]) -> Result<Vec<Word<'_>>, ListError
 {
     let slice = sheet::read(sheet, 0, Form::Slice)?;
     let mut words = Vec::new(heap);
+    // The place is kept by hand: where a text ends, the next begins.
     let mut at = slice.end;
     for _ in 0..followers(slice.word) {
         let text = held_text(sheet, at)?;
