@@ -104,7 +104,7 @@ impl Part for Leaf {
     }
 }
 
-// The leaves that are held by two.
+// The leaves that are held by two: few, since each is one more type to build for each pair of holders.
 struct DeepLeaf;
 
 impl Part for DeepLeaf {
@@ -118,9 +118,9 @@ impl Part for DeepLeaf {
 }
 
 // A leaf, or a kind that holds the rest of the name.
-struct Holder<P: Part>(PhantomData<P>);
+struct Layer<P: Part>(PhantomData<P>);
 
-impl<P: Part> Part for Holder<P> {
+impl<P: Part> Part for Layer<P> {
     fn run<H: Hold, E: Endian>(name: &str, request: Request) -> Result<Said, Trouble> {
         if let Some(rest) = name.strip_prefix("p") {
             P::run::<Pointed<H>, E>(rest, request)
@@ -173,6 +173,6 @@ pub fn named<E: Endian>(name: &str, request: Request) -> Result<Said, Trouble> {
             Sliced::<Arrayed<Pointed<Alone>, 2>>::run_step::<_, E>(ZeroStr::<E>::new(), request)
         }
         "spst" => Sliced::<Pointed<Sliced<Alone>>>::run_step::<_, E>(ZeroStr::<E>::new(), request),
-        _ => Holder::<Holder<DeepLeaf>>::run::<Alone, E>(name, request),
+        _ => Layer::<Layer<DeepLeaf>>::run::<Alone, E>(name, request),
     }
 }

@@ -36,7 +36,7 @@ impl Desk {
         Ok(buffer)
     }
 
-    pub fn is_open(&self) -> Result<(), Unread> {
+    pub fn opened(&self) -> Result<(), Unread> {
         match self.builder {
             Some(_) => Ok(()),
             None => Err(Unread::NoBuilder),

@@ -38,60 +38,63 @@ pub enum Task<'a> {
 }
 
 impl<'a> Task<'a> {
-    // The first fault is told: of the bytes, then that no builder is open, then of the numbers, the kind and the order.
-    fn read(words: Words<'a>, desk: &Desk) -> Result<Task<'a>, Trouble> {
-        let call = match words.word(0)? {
-            "scan" => {
-                let sheet = words.bytes(2)?;
-                // A sheet has no byte order.
-                return Ok(Task::Kind(words.word(1)?, Order::Little, Call::Scan(sheet)));
-            }
-            "shallow" => Call::Shallow(words.root(4)?),
-            "deep" => Call::Deep(words.root(4)?),
-            "get" => Call::Get(words.root(4)?),
-            "copy" => Call::Copy(words.root(5)?, words.number(4)?),
-            "reserve" => {
-                desk.is_open()?;
-                Call::Reserve
-            }
-            "push" => {
-                let bytes = words.bytes(3)?;
-                desk.is_open()?;
-                Call::Push(bytes)
-            }
-            "build" => {
-                let sheet = words.bytes(3)?;
-                desk.is_open()?;
-                Call::Build(sheet)
-            }
-            "align" => {
-                desk.is_open()?;
-                return Ok(Task::Align(words.number(1)?));
-            }
-            "reserve_bytes" => {
-                desk.is_open()?;
-                return Ok(Task::ReserveBytes {
-                    count: words.number(1)?,
-                    alignment: words.number(2)?,
-                });
-            }
-            "write" => {
-                let bytes = words.bytes(2)?;
-                desk.is_open()?;
-                let place = words.number(1)?;
-                return Ok(Task::Write { place, bytes });
-            }
-            "push_bytes" => {
-                let bytes = words.bytes(1)?;
-                desk.is_open()?;
-                let alignment = words.number(2)?;
-                return Ok(Task::PushBytes { bytes, alignment });
-            }
-            _ => return Err(Unread::NoCall.into()),
-        };
+    fn with_kind(words: Words<'a>, call: Call) -> Result<Task<'a>, Trouble> {
         let name = words.word(1)?;
         let order = Order::try_from(words.word(2)?)?;
         Ok(Task::Kind(name, order, call))
+    }
+
+    // The first fault is told: of the bytes, then that no builder is open, then of the numbers, then of the kind and the order.
+    fn read(words: Words<'a>, desk: &Desk) -> Result<Task<'a>, Trouble> {
+        match words.word(0)? {
+            "scan" => {
+                let sheet = words.bytes(2)?;
+                // A sheet has no byte order.
+                Ok(Task::Kind(words.word(1)?, Order::Little, Call::Scan(sheet)))
+            }
+            "shallow" => Task::with_kind(words, Call::Shallow(words.root(4)?)),
+            "deep" => Task::with_kind(words, Call::Deep(words.root(4)?)),
+            "get" => Task::with_kind(words, Call::Get(words.root(4)?)),
+            "copy" => Task::with_kind(words, Call::Copy(words.root(5)?, words.number(4)?)),
+            "reserve" => {
+                desk.opened()?;
+                Task::with_kind(words, Call::Reserve)
+            }
+            "push" => {
+                let bytes = words.bytes(3)?;
+                desk.opened()?;
+                Task::with_kind(words, Call::Push(bytes))
+            }
+            "build" => {
+                let sheet = words.bytes(3)?;
+                desk.opened()?;
+                Task::with_kind(words, Call::Build(sheet))
+            }
+            "align" => {
+                desk.opened()?;
+                Ok(Task::Align(words.number(1)?))
+            }
+            "reserve_bytes" => {
+                desk.opened()?;
+                Ok(Task::ReserveBytes {
+                    count: words.number(1)?,
+                    alignment: words.number(2)?,
+                })
+            }
+            "write" => {
+                let bytes = words.bytes(2)?;
+                desk.opened()?;
+                let place = words.number(1)?;
+                Ok(Task::Write { place, bytes })
+            }
+            "push_bytes" => {
+                let bytes = words.bytes(1)?;
+                desk.opened()?;
+                let alignment = words.number(2)?;
+                Ok(Task::PushBytes { bytes, alignment })
+            }
+            _ => Err(Unread::NoCall.into()),
+        }
     }
 
     pub fn run(self, desk: &mut Desk, buffer: &mut [u8]) -> Result<Said, Trouble> {

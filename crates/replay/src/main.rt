@@ -23,15 +23,14 @@ fn answer(
     buffer: &mut Vec<u8>,
 ) -> Result<Said, Trouble> {
     let words = line.split_whitespace().collect::<Vec<_>>(heap)?;
-    match Line::read(Words::new(heap, words.as_slice()), desk) {
-        Err(trouble) => Err(trouble),
-        Ok(Line::New(room)) => {
+    match Line::read(Words::new(heap, words.as_slice()), desk)? {
+        Line::New(room) => {
             *buffer = desk.open(room)?;
             Ok(Said::Nothing)
         }
-        Ok(Line::Finish) => desk.finish(buffer.as_slice()),
-        Ok(Line::Whole(task)) => task.run(desk, buffer.as_mut_slice()),
-        Ok(Line::Short(task)) => {
+        Line::Finish => desk.finish(buffer.as_slice()),
+        Line::Whole(task) => task.run(desk, buffer.as_mut_slice()),
+        Line::Short(task) => {
             let end = buffer.len().saturating_sub(1);
             task.run(desk, &mut buffer.as_mut_slice()[..end])
         }

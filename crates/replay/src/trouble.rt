@@ -1,4 +1,5 @@
 // Why a call gives no answer of its own: it is refused, or it cannot be made.
+use hex::FromHexError;
 use refusal::Refusal;
 use std::alloc::AllocError;
 use thiserror::Error;
@@ -34,4 +35,16 @@ pub enum Trouble {
     Unread(#[from] Unread),
     #[error("not made: out of memory")]
     Memory(#[from(alloc)] AllocError),
+}
+
+impl From<FromHexError> for Trouble {
+    fn from(error: FromHexError) -> Trouble {
+        match error {
+            FromHexError::OddLength => Unread::OddDigits.into(),
+            FromHexError::InvalidHexCharacter { .. } | FromHexError::InvalidStringLength => {
+                Unread::NoDigits.into()
+            }
+            FromHexError::OutOfMemory => AllocError.into(),
+        }
+    }
 }

@@ -1,8 +1,7 @@
 // The words of a line.
 use crate::calls::Root;
 use crate::trouble::{Trouble, Unread};
-use hex::FromHexError;
-use std::alloc::{AllocError, Global};
+use std::alloc::Global;
 
 // Two hexadecimal digits a byte, with no small letters; a minus sign for none.
 fn hexadecimal(heap: Global, text: &str) -> Result<Vec<u8>, Trouble> {
@@ -12,11 +11,7 @@ fn hexadecimal(heap: Global, text: &str) -> Result<Vec<u8>, Trouble> {
     if !text.bytes().all(|b| matches!(b, b'0'..=b'9' | b'A'..=b'F')) {
         return Err(Unread::NoDigits.into());
     }
-    hex::decode(heap, text).map_err(|e| match e {
-        FromHexError::OddLength => Unread::OddDigits.into(),
-        FromHexError::OutOfMemory => AllocError.into(),
-        _ => Unread::NoDigits.into(),
-    })
+    Ok(hex::decode(heap, text)?)
 }
 
 // The words of a line.
