@@ -89,6 +89,16 @@ pub struct PerList<T> {
 
 pub type Sheets = PerList<Vec<u8>>;
 
+impl Sheets {
+    pub fn each(&self) -> [&[u8]; 3] {
+        [
+            self.numbers.as_slice(),
+            self.casts.as_slice(),
+            self.parts.as_slice(),
+        ]
+    }
+}
+
 // Where the lists were built, and what the builder told at its end.
 #[derive(Drop)]
 pub struct Assembled {
@@ -103,6 +113,7 @@ fn build<R: Root>(
     sheet: &[u8],
 ) -> Result<usize, Refusal> {
     let place = builder.build(buffer, &list_of::<R>(), sheet)?;
+    // The mask changes no distance within the limit, and shows that it fits.
     let distance = place.saturating_sub(R::PLACE) & 0x7fff_ffff;
     builder.write(
         buffer,

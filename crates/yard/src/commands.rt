@@ -6,14 +6,15 @@ use crate::boat::{
 use crate::failure::failed;
 use crate::files::{give_up, put_in_place, read_file, write_beside};
 use crate::plate_list::{plates_of, sheets_of};
-use crate::show::{checked_lists, print_lists, refused};
+use crate::show::{Named, checked_lists, print_lists, refused};
 use buffer::LIMIT;
 use builder::Finished;
 use std::io::{Read, Write};
 
 // Enough for the lists of such sheets: a head has at most 8 bytes where a sheet has at least 6, and each list at most 3 of padding.
 fn room_for(sheets: &Sheets) -> usize {
-    [&sheets.numbers, &sheets.casts, &sheets.parts]
+    sheets
+        .each()
         .iter()
         .fold(
             64usize,
@@ -36,23 +37,18 @@ fn archive_of(rt: &HostRuntime, sheets: &Sheets) -> anyhow::Result<(Vec<u8>, Ass
     Ok((buffer, assembled))
 }
 
-fn copied<R: Root>(rt: &HostRuntime, name: &str, archive: &[u8]) -> anyhow::Result<Vec<u8>> {
-    copy_root::<R>(rt.alloc(), archive).map_err(|error| match error {
-        CopyError::Refused(refusal) => refused(rt, name, R::NAME, refusal),
+fn copied<R: Root>(rt: &HostRuntime, archive: Named) -> anyhow::Result<Vec<u8>> {
+    copy_root::<R>(rt.alloc(), archive.bytes).map_err(|error| match error {
+        CopyError::Refused(refusal) => refused::<R>(rt, archive.name, refusal),
         CopyError::Memory(_) => error.into(),
     })
 }
 
 // That a list copies out as the sheet that it was built from, behind the mark of its pointer.
-fn compare<R: Root>(
-    rt: &HostRuntime,
-    name: &str,
-    archive: &[u8],
-    sheet: &[u8],
-) -> anyhow::Result<()> {
-    let copy = copied::<R>(rt, name, archive)?;
+fn compare<R: Root>(rt: &HostRuntime, archive: Named, sheet: &[u8]) -> anyhow::Result<()> {
+    let copy = copied::<R>(rt, archive)?;
     if copy.as_slice().get(2..) != Some(sheet) {
-        let list = R::NAME;
+        let (name, list) = (archive.name, R::NAME);
         return Err(failed(
             rt,
             format_args!("{name}: {list} is not what was built"),
@@ -62,11 +58,11 @@ fn compare<R: Root>(
     Ok(())
 }
 
-fn verify(rt: &HostRuntime, name: &str, archive: &[u8], sheets: &Sheets) -> anyhow::Result<()> {
-    let lists = checked_lists(rt, name, archive)?;
-    compare::<Numbers>(rt, name, archive, sheets.numbers.as_slice())?;
-    compare::<Casts>(rt, name, archive, sheets.casts.as_slice())?;
-    compare::<Parts>(rt, name, archive, sheets.parts.as_slice())?;
+fn verify(rt: &HostRuntime, archive: Named, sheets: &Sheets) -> anyhow::Result<()> {
+    let lists = checked_lists(rt, archive)?;
+    compare::<Numbers>(rt, archive, sheets.numbers.as_slice())?;
+    compare::<Casts>(rt, archive, sheets.casts.as_slice())?;
+    compare::<Parts>(rt, archive, sheets.parts.as_slice())?;
     let count = lists.plates();
     println!(rt;
         "read again, checked deeply and copied out: {count} plates, equal to what was built"
@@ -106,12 +102,20 @@ pub fn build(rt: &HostRuntime, list: &str, path: &str) -> anyhow::Result<()> {
 
 fn verify_file(rt: &HostRuntime, path: &str, sheets: &Sheets) -> anyhow::Result<()> {
     let bytes = read_file(rt, path)?;
-    verify(rt, path, bytes.as_slice(), sheets)
+    let archive = Named {
+        name: path,
+        bytes: bytes.as_slice(),
+    };
+    verify(rt, archive, sheets)
 }
 
 pub fn check(rt: &HostRuntime, path: &str) -> anyhow::Result<()> {
     let bytes = read_file(rt, path)?;
-    let lists = checked_lists(rt, path, bytes.as_slice())?;
+    let archive = Named {
+        name: path,
+        bytes: bytes.as_slice(),
+    };
+    let lists = checked_lists(rt, archive)?;
     let count = lists.plates();
     let length = bytes.len();
     println!(rt; "{path} is sound: {count} plates in {length} bytes")?;
@@ -120,18 +124,28 @@ pub fn check(rt: &HostRuntime, path: &str) -> anyhow::Result<()> {
 
 pub fn list(rt: &HostRuntime, path: &str) -> anyhow::Result<()> {
     let bytes = read_file(rt, path)?;
-    let lists = checked_lists(rt, path, bytes.as_slice())?;
-    print_lists(rt, bytes.as_slice(), &lists)
+    let archive = Named {
+        name: path,
+        bytes: bytes.as_slice(),
+    };
+    let lists = checked_lists(rt, archive)?;
+    print_lists(rt, archive.bytes, &lists)
 }
 
 // The sheets of the three lists, one behind another, as raw bytes.
 pub fn copy(rt: &HostRuntime, path: &str) -> anyhow::Result<()> {
     let bytes = read_file(rt, path)?;
-    let numbers = copied::<Numbers>(rt, path, bytes.as_slice())?;
-    let casts = copied::<Casts>(rt, path, bytes.as_slice())?;
-    let parts = copied::<Parts>(rt, path, bytes.as_slice())?;
-    for sheet in [&numbers, &casts, &parts] {
-        rt.stdout().write_all(sheet.as_slice())?;
+    let archive = Named {
+        name: path,
+        bytes: bytes.as_slice(),
+    };
+    let sheets = PerList {
+        numbers: copied::<Numbers>(rt, archive)?,
+        casts: copied::<Casts>(rt, archive)?,
+        parts: copied::<Parts>(rt, archive)?,
+    };
+    for sheet in sheets.each() {
+        rt.stdout().write_all(sheet)?;
     }
     Ok(())
 }
@@ -145,9 +159,13 @@ pub fn round(rt: &HostRuntime) -> anyhow::Result<()> {
     let sheets = sheets_of(rt, plates)?;
     let (mut archive, assembled) = archive_of(rt, &sheets)?;
     tell_built(rt, count, &assembled)?;
-    verify(rt, "the archive", archive.as_slice(), &sheets)?;
-    let lists = checked_lists(rt, "the archive", archive.as_slice())?;
-    print_lists(rt, archive.as_slice(), &lists)?;
+    let built = Named {
+        name: "the archive",
+        bytes: archive.as_slice(),
+    };
+    verify(rt, built, &sheets)?;
+    let lists = checked_lists(rt, built)?;
+    print_lists(rt, built.bytes, &lists)?;
     damage(rt, archive.as_mut_slice())
 }
 

@@ -42,6 +42,7 @@ fn read_block(file: &mut File, bytes: &mut Vec<u8>) -> anyhow::Result<usize> {
 
 fn read_blocks(rt: &HostRuntime, path: &str, file: &mut File) -> anyhow::Result<Vec<u8>> {
     let mut bytes = Vec::new(rt.alloc());
+    // A loop needs an end: no file has so many blocks.
     for _ in 0..u64::MAX {
         let before = bytes.len();
         if read_block(file, &mut bytes)? == 0 {

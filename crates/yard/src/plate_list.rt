@@ -32,10 +32,11 @@ fn plate<'a>(rt: &HostRuntime, line: usize, bytes: &'a [u8]) -> anyhow::Result<P
 }
 
 pub fn plates_of<'a>(rt: &HostRuntime, list: &'a [u8]) -> anyhow::Result<Vec<Plate<'a>>> {
-    let mut plates = Vec::new(rt.alloc());
-    for (index, line) in lines(rt.alloc(), list)?.iter().enumerate() {
-        plates.push(plate(rt, index.saturating_add(1), line)?)?;
-    }
+    let plates: Vec<_> = lines(rt.alloc(), list)?
+        .iter()
+        .enumerate()
+        .map(|(index, line)| plate(rt, index.saturating_add(1), line))
+        .try_collect(rt.alloc())?;
     if plates.is_empty() {
         return Err(anyhow!("the list is empty: it has no plate"));
     }

@@ -14,7 +14,15 @@ impl Lists {
     }
 }
 
-pub fn refused(rt: &HostRuntime, name: &str, list: &str, refusal: Refusal) -> Error {
+// The bytes of an archive, and the name that it goes by in what is said of it.
+#[derive(Clone, Copy)]
+pub struct Named<'a> {
+    pub name: &'a str,
+    pub bytes: &'a [u8],
+}
+
+pub fn refused<R: Root>(rt: &HostRuntime, name: &str, refusal: Refusal) -> Error {
+    let list = R::NAME;
     failed(
         rt,
         format_args!("{name} is refused: {list}: {refusal}"),
@@ -22,19 +30,20 @@ pub fn refused(rt: &HostRuntime, name: &str, list: &str, refusal: Refusal) -> Er
     )
 }
 
-fn checked<R: Root>(rt: &HostRuntime, name: &str, archive: &[u8]) -> anyhow::Result<Items> {
-    check::<R>(archive)
-        .and_then(|_| list::<R>(archive))
-        .map_err(|refusal| refused(rt, name, R::NAME, refusal))
+fn checked<R: Root>(rt: &HostRuntime, archive: Named) -> anyhow::Result<Items> {
+    check::<R>(archive.bytes)
+        .and_then(|_| list::<R>(archive.bytes))
+        .map_err(|refusal| refused::<R>(rt, archive.name, refusal))
 }
 
 // Checks all of an archive: each list by itself, and that they are of the same plates.
-pub fn checked_lists(rt: &HostRuntime, name: &str, archive: &[u8]) -> anyhow::Result<Lists> {
+pub fn checked_lists(rt: &HostRuntime, archive: Named) -> anyhow::Result<Lists> {
     let lists = PerList {
-        numbers: checked::<Numbers>(rt, name, archive)?,
-        casts: checked::<Casts>(rt, name, archive)?,
-        parts: checked::<Parts>(rt, name, archive)?,
+        numbers: checked::<Numbers>(rt, archive)?,
+        casts: checked::<Casts>(rt, archive)?,
+        parts: checked::<Parts>(rt, archive)?,
     };
+    let name = archive.name;
     let (n, c, p) = (lists.numbers.count, lists.casts.count, lists.parts.count);
     if c != n || p != n {
         return Err(failed(
