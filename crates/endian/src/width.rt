@@ -30,6 +30,7 @@ pub trait Primitive {
         ensures bytes { out.new ≡ put out.old at (E.Endian.order.lay SIZE (value n)) }
         ensures small { value n < 256 ^ SIZE };
 
+    // No bound `Into<u64>` in its place: that would ask of each width a law, where this asks a line.
     fn widen(n: Self::Number) -> u64
         ensures same { result ≡ value n }
         ensures small { result < 256 ^ SIZE };

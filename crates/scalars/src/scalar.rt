@@ -12,14 +12,14 @@ pub trait Scalar {
 
     ghost letters: { List ℕ };
 
-    // Whether every number of this width is such a scalar.
+    // Whether it is known that every number of this width is one.
     const ALL_VALID: bool;
 
     ghost ALL_VALID: { Bool };
 
     ghost passes: { ℕ → Bool };
 
-    // The mark in a sheet.
+    // The mark in a sheet. No constant: a constant's value may not be chosen by the width yet.
     fn mark() -> &'static [u8; 2]
         ensures { result.now ≡ letters };
 
