@@ -4,7 +4,8 @@ ghost use Rattle.format.specs.Archive.{rooted, is_valid as is_valid_by, is_valid
 ghost use Rattle.kind.specs.Asked.{Seated};
 ghost use Rattle.refusal.specs.Told.{told};
 
-use buffer::{LIMIT, lies_within};
+use buffer::LIMIT;
+use distance::sits;
 use kind::Kind;
 use refusal::{Cause, Refusal};
 
@@ -16,13 +17,7 @@ pub fn root<K: Kind>(kind: &K, archive: &[u8], place: usize) -> Result<usize, Re
     if archive.len() > LIMIT {
         return Err(Refusal::whole(Cause::OverLimit));
     }
-    if !lies_within(archive.len(), place, kind.size()) {
-        return Err(Refusal::at(Cause::Outside, place));
-    }
-    if place % kind.align() != 0 {
-        return Err(Refusal::at(Cause::Misaligned, place));
-    }
-    Ok(place)
+    sits(place, place, kind.size(), kind.align(), archive.len())
 }
 
 // One look: the root, whether its target sits, and text, truth or character in its head.

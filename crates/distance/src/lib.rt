@@ -1,13 +1,14 @@
 // Distances: signed 32-bit numbers, counted from their own first byte, that lead to a place of the archive.
 #![tactic(auto)]
 
-ghost use Rattle.std.specs.Prelude.{◌≡◌, ◌+◌, ◌-◌, ◌<◌, ◌≤◌, length, IfOk};
+ghost use Rattle.std.specs.Prelude.{◌≡◌, ◌+◌, ◌-◌, ◌%◌, ◌<◌, ◌≤◌, length, IfOk};
 ghost use Rattle.format.specs.Places.{limit, put};
 ghost use Rattle.format.specs.Answers.{both};
-ghost use Rattle.format.specs.Meaning.{sits};
+ghost use Rattle.format.specs.Meaning.{sits as sits_by};
 ghost use Rattle.format.specs.Texts.{target as target_of};
 ghost use Rattle.refusal.specs.Told.{told};
 
+use buffer::lies_within;
 use endian::order::Endian;
 use endian::width::{Primitive, Width4};
 use refusal::{Cause, Refusal};
@@ -18,11 +19,29 @@ pub fn target<E: Endian>(archive: &[u8], at: usize) -> Result<usize, Refusal>
     ensures { told result ≡ target_of E.Endian.order archive.now at }
 {
     let distance = Width4::take_back::<E>(archive, at).cast_signed();
-    let place = at as i64 + i64::from(distance);
-    if place < 0 {
-        return Err(Refusal::at(Cause::Outside, at));
+    at.checked_add_signed(distance as isize)
+        .ok_or(Refusal::at(Cause::Outside, at))
+}
+
+// A place, if so many bytes sit there at an alignment in an archive of a length; a refusal names the place that led there.
+pub fn sits(
+    named: usize,
+    place: usize,
+    size: usize,
+    align: usize,
+    length: usize,
+) -> Result<usize, Refusal>
+    requires { 0 < align }
+    ensures told { told result ≡ sits_by named place size align length }
+    ensures seated { IfOk result (λ q. (q ≡ place) × (place + size ≤ length) × (place % align ≡ 0)) }
+{
+    if !lies_within(length, place, size) {
+        return Err(Refusal::at(Cause::Outside, named));
     }
-    Ok(place as usize)
+    if place % align != 0 {
+        return Err(Refusal::at(Cause::Misaligned, named));
+    }
+    Ok(place)
 }
 
 // The same, if so many bytes sit there at an alignment; a refusal names the place of the distance.
@@ -33,17 +52,11 @@ pub fn follow<E: Endian>(
     align: usize,
 ) -> Result<usize, Refusal>
     requires { (at + 4 ≤ length archive.now) × ((length archive.now ≤ limit) × (0 < align)) }
-    ensures told { told result ≡ both (target_of E.Endian.order archive.now at) (λ q. sits at q size align (length archive.now)) }
+    ensures told { told result ≡ both (target_of E.Endian.order archive.now at) (λ q. sits_by at q size align (length archive.now)) }
     ensures within { IfOk result (λ q. q + size ≤ length archive.now) }
 {
     let place = target::<E>(archive, at)?;
-    if archive.len() < size || archive.len() - size < place {
-        return Err(Refusal::at(Cause::Outside, at));
-    }
-    if place % align != 0 {
-        return Err(Refusal::at(Cause::Misaligned, at));
-    }
-    Ok(place)
+    sits(at, place, size, align, archive.len())
 }
 
 // Puts the distance from a place to one behind it over the bytes there.

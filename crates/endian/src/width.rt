@@ -11,33 +11,30 @@ use buffer::put_at;
 pub trait Primitive {
     type Number: Copy;
 
+    // How many bytes a number has.
     const SIZE: usize;
 
-    // how many bytes a number has
-    ghost width: { ℕ };
+    ghost SIZE: { ℕ };
 
     ghost value: { Self.Number → ℕ };
 
-    fn width() -> usize
-        ensures { result ≡ width };
-
     // The number whose bytes stand at `at`.
     fn take_back<E: Endian>(bytes: &[u8], at: usize) -> Self::Number
-        requires { at + width ≤ length bytes.now }
-        ensures value { value result ≡ E.Endian.order.take_back (part at width bytes.now) }
-        ensures small { value result < 256 ^ width };
+        requires { at + SIZE ≤ length bytes.now }
+        ensures value { value result ≡ E.Endian.order.take_back (part at SIZE bytes.now) }
+        ensures small { value result < 256 ^ SIZE };
 
     // Puts the bytes of a number over those at `at`.
     fn lay<E: Endian>(n: Self::Number, out: &mut [u8], at: usize)
-        requires { at + width ≤ length out.old }
-        ensures bytes { out.new ≡ put out.old at (E.Endian.order.lay width (value n)) }
-        ensures small { value n < 256 ^ width };
+        requires { at + SIZE ≤ length out.old }
+        ensures bytes { out.new ≡ put out.old at (E.Endian.order.lay SIZE (value n)) }
+        ensures small { value n < 256 ^ SIZE };
 
     fn widen(n: Self::Number) -> u64
         ensures same { result ≡ value n }
-        ensures small { result < 256 ^ width };
+        ensures small { result < 256 ^ SIZE };
 
-    ghost sized: { Width width };
+    ghost sized: { Width SIZE };
 
     ghost told: { (m n : Self.Number) → value m ≡ value n → m ≡ n };
 }
@@ -59,17 +56,13 @@ impl Primitive for Width1 {
 
     const SIZE: usize = 1;
 
-    ghost width = { 1 };
+    ghost SIZE = { 1 };
 
     ghost value = { λ n. n };
 
     ghost sized = { Prim.search rules };
 
     ghost told = { Prim.search rules };
-
-    fn width() -> usize {
-        Self::SIZE
-    }
 
     fn take_back<E: Endian>(bytes: &[u8], at: usize) -> u8 {
         E::to_native_u8(array_at(bytes, at))
@@ -89,17 +82,13 @@ impl Primitive for Width2 {
 
     const SIZE: usize = 2;
 
-    ghost width = { 2 };
+    ghost SIZE = { 2 };
 
     ghost value = { λ n. n };
 
     ghost sized = { width_2 };
 
     ghost told = { Prim.search rules };
-
-    fn width() -> usize {
-        Self::SIZE
-    }
 
     fn take_back<E: Endian>(bytes: &[u8], at: usize) -> u16 {
         E::to_native_u16(array_at(bytes, at))
@@ -119,17 +108,13 @@ impl Primitive for Width4 {
 
     const SIZE: usize = 4;
 
-    ghost width = { 4 };
+    ghost SIZE = { 4 };
 
     ghost value = { λ n. n };
 
     ghost sized = { width_4 };
 
     ghost told = { Prim.search rules };
-
-    fn width() -> usize {
-        Self::SIZE
-    }
 
     fn take_back<E: Endian>(bytes: &[u8], at: usize) -> u32 {
         E::to_native_u32(array_at(bytes, at))
@@ -149,17 +134,13 @@ impl Primitive for Width8 {
 
     const SIZE: usize = 8;
 
-    ghost width = { 8 };
+    ghost SIZE = { 8 };
 
     ghost value = { λ n. n };
 
     ghost sized = { width_8 };
 
     ghost told = { Prim.search rules };
-
-    fn width() -> usize {
-        Self::SIZE
-    }
 
     fn take_back<E: Endian>(bytes: &[u8], at: usize) -> u64 {
         E::to_native_u64(array_at(bytes, at))

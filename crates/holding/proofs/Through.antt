@@ -1,22 +1,32 @@
 -- What is read through one distance, and put behind a front. Assumes nothing.
-use Rattle.std.proofs.Common.{◌≡◌, ℕ, ◌+◌, ◌≤◌, List, ◌++◌, length, sym, ap, ◌∙◌, subst, arith}
+use Rattle.std.proofs.Common.{◌≡◌, ℕ, ◌+◌, ◌≤◌, min, List, ◌++◌, length, sym, refl, ap, ◌∙◌, subst, arith}
 use Rattle.std.proofs.lemmas.List.{length-append}
 use Rattle.format.specs.Places.{limit, put}
 use Rattle.format.specs.Orders.{Order}
-use Rattle.format.specs.Answers.{good, both}
+use Rattle.format.specs.Answers.{Answer, good, bad, both, inside}
 use Rattle.format.specs.Meaning.{Meaning, Sits}
 use Rattle.format.specs.Texts.{target}
 use Rattle.format.specs.Links.{linked, held}
 use Rattle.format.proofs.AnswerLaws.{both_parts, inside-good, good-same}
 use Rattle.format.proofs.PutLaws.{put-put}
 use Rattle.format.proofs.FarLaws.{linked_parts}
-use Rattle.kind.specs.Asked.{Copyable}
+use Rattle.kind.specs.Asked.{Copyable, length_read}
 
 -- a value that another holds, whose sheet begins with a front
 pub held_parts : (front : List ℕ) (m : Meaning) (a : List ℕ) (q : ℕ) (s : List ℕ) → held front m a q ≡ good s → (r : List ℕ) × ((m.reading a q ≡ good r) × (s ≡ front ++ r))
 held_parts front m a q s h =
     let x = both_parts (m.reading a q) _ s (inside-good _ s h) in
     (x.0, (x.1.0, sym (good-same _ _ x.1.1)))
+
+-- how long the sheet is that is read behind a front of so many bytes
+pub length-held : (front : List ℕ) (k : ℕ) → length front ≡ k → (m : Meaning) (a : List ℕ) (q : ℕ) → inside (both (length_read (m.reading a q)) (λ n. good (min (k + n) 18446744073709551615))) ≡ length_read (held front m a q)
+length-held front k h m a q = go (m.reading a q) where
+  go : (x : Answer (List ℕ)) → inside (both (length_read x) (λ n. good (min (k + n) 18446744073709551615))) ≡ length_read (inside (both x (λ s. good (front ++ s))))
+  go (good s) =
+      let l = length-append front s in
+      let e : min (k + min (length s) 18446744073709551615) 18446744073709551615 ≡ min (length (front ++ s)) 18446744073709551615 = omega arith in
+      ap good e
+  go (bad f) = refl
 
 -- what a good answer through a distance says: where it leads, and what is read there
 pub record Reads (m : Meaning) (o : Order) (front : List ℕ) (a : List ℕ) (d : ℕ) (s : List ℕ) : Type 0 where

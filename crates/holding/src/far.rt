@@ -4,12 +4,9 @@ ghost use Rattle.format.specs.Places.{limit, stop, up, put, zeros};
 ghost use Rattle.format.specs.Answers.{good};
 ghost use Rattle.format.specs.Texts.{target as target_of};
 
-use buffer::{put_zeros, rounded};
+use buffer::{STOP, put_zeros, rounded};
 use distance::{lead, target};
 use endian::order::Endian;
-
-// Where sizes and ends stop.
-const STOP: usize = 2_147_483_648;
 
 // Where the tail starts of what a distance leads to, if the holder's tail starts at `tail`.
 pub fn far_tail(tail: usize, size: usize, align: usize) -> usize

@@ -10,15 +10,12 @@ pub fn held(answer: Result<usize, Refusal>) -> Result<usize, Refusal>
     ensures told { told result ≡ inside (told answer) }
     ensures same { IfOk result (λ n. answer ≡ Ok n) }
 {
-    match answer {
-        Ok(n) => Ok(n),
-        Err(refusal) => Err(refusal.deeper()),
-    }
+    answer.map_err(Refusal::deeper)
 }
 
 // The same of a sheet's length, with so many bytes before it.
 pub fn behind_front(answer: Result<usize, Refusal>, front: usize) -> Result<usize, Refusal>
     ensures { told result ≡ inside (both (told answer) (λ n. good (min (front + n) 18446744073709551615))) }
 {
-    Ok(held(answer)?.saturating_add(front))
+    held(answer).map(|length| length.saturating_add(front))
 }

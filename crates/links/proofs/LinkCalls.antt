@@ -1,11 +1,13 @@
 -- What a distance behind a mark asks of what it leads to, and what it answers by it. Assumes nothing.
 use Rattle.std.proofs.Common.{◌≡◌, ℕ, ◌+◌, ◌-◌, ◌≤◌, max, List, length, sym, refl, ap, ◌∙◌, subst, arith}
-use Rattle.format.specs.Places.{stop, up, zeros, put, Bytes}
+use Rattle.format.specs.Places.{limit, stop, up, zeros, put, Bytes}
 use Rattle.format.specs.Orders.{Order, Undoes}
-use Rattle.format.specs.Meaning.{Meaning, Keeps}
-use Rattle.format.specs.Links.{far, link}
+use Rattle.format.specs.Meaning.{Meaning, Keeps, Sits}
+use Rattle.format.specs.Links.{far, link, linked}
+use Rattle.format.specs.Answers.{good}
+use Rattle.format.proofs.FarLaws.{linked_parts}
 use Rattle.format.proofs.OrderLaws.{width_4}
-use Rattle.kind.specs.Asked.{value_at, Next, Askable, Foretold, Fillable, filled}
+use Rattle.kind.specs.Asked.{value_at, Next, Askable, Foretold, Fillable, filled, Seated}
 use Rattle.holding.proofs.Fronts.{Held, held-there}
 use Rattle.holding.proofs.FarAsked.{Reachable, reachable}
 use Rattle.holding.proofs.FarFilled.{Room, far_askable, far_foretold, far-room, far_within, far_fillable, far-filled}
@@ -61,3 +63,37 @@ module _ (mark : List ℕ) (m : Meaning) (o : Order) (k : Keeps m) (s : List ℕ
           far-filled m k s (p + 2) f.next t bytes i.found (length out) f.capped fits q z e g out next new h r (λ q. o.lay 4 (q - h)) refl (omega arith) put_next put-new end in
           let laid = ap (λ u. far (o.lay 4 (up t m.align - h)) m u t) (sym i.value) in
           (x.0 ∙ ap (filled out h t) laid, x.1 ∙ ap (λ u. u.end) laid)
+
+-- the same of a meaning b that is m, as the code has it
+module _ (mark : List ℕ) (m b : Meaning) (is : b ≡ m) (o : Order) (s : List ℕ) (p : ℕ) where
+  pub link-found : (q : ℕ) → Next (link mark m o) s p q → Next (link mark b o) s p q
+  link-found q = subst (λ r. Next (link mark r o) s p q) (sym is)
+
+  pub link-told : (q : ℕ) → Next (link mark b o) s p q → Next (link mark m o) s p q
+  link-told q = subst (λ r. Next (link mark r o) s p q) is
+
+  pub link_asked : (t : ℕ) → Askable (link mark m o) s p t → Askable (link mark b o) s p t
+  link_asked t a = record { next = a.next; found = link-found a.next a.found; reached = a.reached }
+
+  pub link_foreseen : (t e w : ℕ) → Foretold (link mark b o) s p t e w → Foretold (link mark m o) s p t e w
+  link_foreseen t e w = subst (λ r. Foretold (link mark r o) s p t e w) is
+
+  pub link_filling : (out : List ℕ) (h t : ℕ) → Fillable (link mark m o) s p out h t → Fillable (link mark b o) s p out h t
+  link_filling out h t f = record {
+    next = f.next;
+    found = link-found f.next f.found;
+    aligned = f.aligned;
+    behind = f.behind;
+    starts = f.starts;
+    room = subst (λ r. ((link mark r o).lay (value_at (link mark r o) s p) h t).end ≤ length out) (sym is) f.room;
+    capped = f.capped;
+  }
+
+  pub link-same : (h t : ℕ) → (link mark b o).lay (value_at (link mark b o) s p) h t ≡ (link mark m o).lay (value_at (link mark m o) s p) h t
+  link-same h t = ap (λ r. (link mark r o).lay (value_at (link mark r o) s p) h t) is
+
+-- what a good answer through a distance says of the place that it tells
+pub link_seated : (m b : Meaning) → b ≡ m → (o : Order) (a : List ℕ) (d q : ℕ) → length a ≤ limit → good q ≡ linked m o a d → Seated b a q
+link_seated m b is o a d q capped h =
+    let sits = subst (λ r. Sits r a q) (sym is) (linked_parts m o a d q (sym h)).1 in
+    record { capped = capped; within = sits.0; aligned = sits.1 }

@@ -1,7 +1,9 @@
 // A distance to one value.
 ghost use Rattle.std.specs.Prelude.{◌≡◌};
-ghost use Rattle.format.specs.Links.{pointer};
+ghost use Rattle.format.specs.Links.{pointer, linked};
 ghost use Rattle.format.specs.Archive.{pointer_step};
+ghost use Rattle.refusal.specs.Told.{told};
+ghost use Rattle.kind.specs.Asked.{Seated};
 ghost use Rattle.format.proofs.LinkLaws.{pointer_laws};
 
 use crate::{ALIGN, SIZE};
@@ -29,6 +31,14 @@ impl<K: Kind, E: Endian> RelativePtr<K, E> {
             order: PhantomData,
         }
     }
+
+    // Where the distance at a place leads, if the item sits there.
+    fn target(&self, archive: &[u8], at: usize) -> Result<usize, Refusal>
+        requires { Seated (pointer (K.Kind.meaning self.now.item) E.Endian.order) archive.now at }
+        ensures { told result ≡ linked (K.Kind.meaning self.now.item) E.Endian.order archive.now at }
+    {
+        follow::<E>(archive, at, self.item.size(), self.item.align())
+    }
 }
 
 impl<K: Kind, E: Endian> Kind for RelativePtr<K, E> {
@@ -50,7 +60,7 @@ impl<K: Kind, E: Endian> Kind for RelativePtr<K, E> {
     }
 
     fn layout(&self, sheet: &[u8], at: &mut usize, tail: usize) -> (usize, usize) {
-        *at = *at + 2;
+        *at += 2;
         let start = far_tail(tail, self.item.size(), self.item.align());
         let (end, widest) = self.item.layout(sheet, at, start);
         (end, widest.max(ALIGN))
@@ -64,19 +74,19 @@ impl<K: Kind, E: Endian> Kind for RelativePtr<K, E> {
         head: usize,
         tail: usize,
     ) -> usize {
-        *at = *at + 2;
+        *at += 2;
         let place = reach::<E>(out, head, tail, self.item.align());
         self.item
             .fill(sheet, at, out, place, place + self.item.size())
     }
 
     fn shallow(&self, archive: &[u8], at: usize) -> Result<usize, Refusal> {
-        follow::<E>(archive, at, self.item.size(), self.item.align())?;
+        self.target(archive, at)?;
         Ok(at)
     }
 
     fn deep(&self, archive: &[u8], at: usize) -> Result<usize, Refusal> {
-        let place = follow::<E>(archive, at, self.item.size(), self.item.align())?;
+        let place = self.target(archive, at)?;
         behind_front(self.item.deep(archive, place), 2)
     }
 
@@ -90,7 +100,7 @@ impl<K: Kind, E: Endian> OneStep for RelativePtr<K, E> {
     ghost step = { λ k. pointer_step (K.Kind.meaning k.item) E.Endian.order };
 
     fn one_step<'a>(&self, archive: &'a [u8], at: usize) -> Result<Found<'a>, Refusal> {
-        let place = follow::<E>(archive, at, self.item.size(), self.item.align())?;
+        let place = self.target(archive, at)?;
         Ok(Found::Target { place })
     }
 }

@@ -6,7 +6,7 @@ use Rattle.format.specs.Places.{stop, up, part, put, zeros, Bytes}
 use Rattle.format.specs.Orders.{Order, Undoes, number, low_first}
 use Rattle.format.specs.Answers.{good, both, shifted, inside}
 use Rattle.format.specs.Sheets.{slice_mark, at_place, marked, any, number_of, number_read}
-use Rattle.format.specs.Meaning.{Meaning, Laws, Sits}
+use Rattle.format.specs.Meaning.{Meaning, Laws, Keeps, Sits}
 use Rattle.format.specs.Items.{first_of, scan_items, row}
 use Rattle.format.specs.Links.{behind, far, linked, Span, slice, slice_at}
 use Rattle.format.proofs.OrderLaws.{width_4, length-low_first}
@@ -40,71 +40,75 @@ module _ (m : Meaning) (o : Order) (s : List ℕ) (p : ℕ) where
   pub slice-room : (q : ℕ) → Next (slice m o) s p q → p + 6 ≤ length s
   slice-room q h = (inner q h).room
 
-  -- by the count that is taken from the sheet
-  module _ (n : ℕ) (count : n ≡ number (part (p + 2) 4 s)) where
+  -- by the count that is taken from the sheet; b is the row as the code has it
+  module _ (n : ℕ) (count : n ≡ number (part (p + 2) 4 s)) (b : Meaning) (means : b ≡ row m n) where
     is : number_of 4 (drop p s) ≡ n
     is = number_of_is slice_mark 4 s p ∙ sym count
 
-    found : (q : ℕ) → Next (slice m o) s p q → Next (row m n) s (p + 6) q
-    found q h = subst (λ z. Next (row m z) s (p + 6) q) is (inner q h).found
+    found : (q : ℕ) → Next (slice m o) s p q → Next b s (p + 6) q
+    found q h = subst (λ r. Next r s (p + 6) q) (ap (row m) is ∙ sym means) (inner q h).found
 
-    pub slice-next : (q r : ℕ) → Next (slice m o) s p q → Next (row m n) s (p + 6) r → Next (slice m o) s p r
+    pub slice-next : (q r : ℕ) → Next (slice m o) s p q → Next b s (p + 6) r → Next (slice m o) s p r
     slice-next q r h i = h ∙ (sym (found q h) ∙ i)
+
+    keeps : Laws m → Keeps b
+    keeps law = subst Keeps (sym means) (row_keeps m n law)
 
     laid :
         (q h t : ℕ) → Next (slice m o) s p q →
-        (slice m o).lay (value_at (slice m o) s p) h t ≡ far (o.lay 4 n ++ o.lay 4 (up t m.align - (h + 4))) (row m n) (value_at (row m n) s (p + 6)) t
+        (slice m o).lay (value_at (slice m o) s p) h t ≡ far (o.lay 4 n ++ o.lay 4 (up t b.align - (h + 4))) b (value_at b s (p + 6)) t
     laid q h t f =
         let i = inner q f in
         let c : number_of 4 (value_at (slice m o) s p) ≡ n = ap (λ z. number_of 4 (first_of z (drop p s))) i.ends ∙ (number_front (drop p s) i.end i.long ∙ is) in
         let u : drop 6 (value_at (slice m o) s p) ≡ value_at (row m n) s (p + 6) = i.value ∙ ap (λ z. value_at (row m z) s (p + 6)) is in
-        ap₂ (λ c u. far (o.lay 4 c ++ o.lay 4 (up t m.align - (h + 4))) (row m c) u t) c u
+        ap₂ (λ c u. far (o.lay 4 c ++ o.lay 4 (up t m.align - (h + 4))) (row m c) u t) c u ∙
+        ap (λ r. far (o.lay 4 n ++ o.lay 4 (up t r.align - (h + 4))) r (value_at r s (p + 6)) t) (sym means)
 
     module _ (law : Laws m) (bytes : Bytes s) where
       module _ (t : ℕ) (a : Askable (slice m o) s p t) where
-        pub slice-askable : (z : ℕ) → z ≡ stop (up t m.align + (row m n).size) → Askable (row m n) s (p + 6) z
-        slice-askable = far_askable (row m n) (row_keeps m n law) s (p + 6) a.next t bytes (found a.next a.found)
+        pub slice-askable : (z : ℕ) → z ≡ stop (up t b.align + b.size) → Askable b s (p + 6) z
+        slice-askable = far_askable b (keeps law) s (p + 6) a.next t bytes (found a.next a.found)
 
-        pub slice-foretold : (z e w : ℕ) → z ≡ stop (up t m.align + (row m n).size) → Foretold (row m n) s (p + 6) z e w → Foretold (slice m o) s p t e (max w 4)
+        pub slice-foretold : (z e w : ℕ) → z ≡ stop (up t b.align + b.size) → Foretold b s (p + 6) z e w → Foretold (slice m o) s p t e (max w 4)
         slice-foretold z e w h fore at =
             subst (λ x. (x.end ≡ e) × (x.widest ≡ max w 4)) (sym (laid a.next at t a.found))
-            (far_foretold (row m n) (row_keeps m n law) s (p + 6) a.next t bytes (found a.next a.found) z e w h fore (o.lay 4 n ++ o.lay 4 (up t m.align - (at + 4))))
+            (far_foretold b (keeps law) s (p + 6) a.next t bytes (found a.next a.found) z e w h fore (o.lay 4 n ++ o.lay 4 (up t b.align - (at + 4))))
 
       module _ (out : List ℕ) (h t : ℕ) (f : Fillable (slice m o) s p out h t) where
-        fits : (far (o.lay 4 n ++ o.lay 4 (up t m.align - (h + 4))) (row m n) (value_at (row m n) s (p + 6)) t).end ≤ length out
+        fits : (far (o.lay 4 n ++ o.lay 4 (up t b.align - (h + 4))) b (value_at b s (p + 6)) t).end ≤ length out
         fits = subst (λ x. x.end ≤ length out) (laid f.next h t f.found) f.room
 
-        room : Room (row m n) (row_keeps m n law) s (p + 6) f.next t bytes (found f.next f.found) (length out) f.capped fits
-        room = far-room (row m n) (row_keeps m n law) s (p + 6) f.next t bytes (found f.next f.found) (length out) f.capped fits
+        room : Room b (keeps law) s (p + 6) f.next t bytes (found f.next f.found) (length out) f.capped fits
+        room = far-room b (keeps law) s (p + 6) f.next t bytes (found f.next f.found) (length out) f.capped fits
 
-        pub slice-reach : (mid : List ℕ) → length mid ≡ length out → (w : ℕ) → w ≡ m.align → Reachable mid (h + 4) t w
+        pub slice-reach : (mid : List ℕ) → length mid ≡ length out → (w : ℕ) → w ≡ b.align → Reachable mid (h + 4) t w
         slice-reach mid long w e =
             let r = room.within in
-            let b = f.behind in
+            let d = f.behind in
             let c = f.capped in
-            reachable (row m n) (row_keeps m n law) mid (h + 4) t (omega arith) (omega arith) (omega arith) w e
+            reachable b (keeps law) mid (h + 4) t (omega arith) (omega arith) (omega arith) w e
 
-        module _ (q z : ℕ) (e : q ≡ up t m.align) (g : z ≡ (row m n).size) where
+        module _ (q z : ℕ) (e : q ≡ up t b.align) (g : z ≡ b.size) where
           pub slice-within : q + z ≤ length out
-          slice-within = far_within (row m n) (row_keeps m n law) s (p + 6) f.next t bytes (found f.next f.found) (length out) f.capped fits q z e g
+          slice-within = far_within b (keeps law) s (p + 6) f.next t bytes (found f.next f.found) (length out) f.capped fits q z e g
 
-          pub slice-fillable : (next : List ℕ) → length next ≡ length out → Fillable (row m n) s (p + 6) next q (q + z)
-          slice-fillable = far_fillable (row m n) (row_keeps m n law) s (p + 6) f.next t bytes (found f.next f.found) (length out) f.capped fits q z e g
+          pub slice-fillable : (next : List ℕ) → length next ≡ length out → Fillable b s (p + 6) next q (q + z)
+          slice-fillable = far_fillable b (keeps law) s (p + 6) f.next t bytes (found f.next f.found) (length out) f.capped fits q z e g
 
           pub slice-filled :
               Undoes o → n < 256 ^ 4 → (mid next new : List ℕ) (r : ℕ) → mid ≡ put out h (o.lay 4 n) → next ≡ put (put mid (h + 4) (o.lay 4 (q - (h + 4)))) t (zeros (q - t)) →
-              new ≡ filled next q (q + z) ((row m n).lay (value_at (row m n) s (p + 6)) q (q + z)) → r ≡ ((row m n).lay (value_at (row m n) s (p + 6)) q (q + z)).end →
+              new ≡ filled next q (q + z) (b.lay (value_at b s (p + 6)) q (q + z)) → r ≡ (b.lay (value_at b s (p + 6)) q (q + z)).end →
               (new ≡ filled out h t ((slice m o).lay (value_at (slice m o) s p) h t)) × (r ≡ ((slice m o).lay (value_at (slice m o) s p) h t).end)
           slice-filled orders small mid next new r put-mid put_next put-new end =
               let within = room.within in
               let capped = f.capped in
               let behind = f.behind in
               let count_long = orders.long 4 n width_4 small in
-              let distance-long = orders.long 4 (up t m.align - (h + 4)) width_4 (omega arith) in
-              let long = length-append (o.lay 4 n) (o.lay 4 (up t m.align - (h + 4))) in
+              let distance-long = orders.long 4 (up t b.align - (h + 4)) width_4 (omega arith) in
+              let long = length-append (o.lay 4 n) (o.lay 4 (up t b.align - (h + 4))) in
               let behind-count : h + 4 ≡ h + length (o.lay 4 n) = omega arith in
               let x =
-              far-filled (row m n) (row_keeps m n law) s (p + 6) f.next t bytes (found f.next f.found) (length out) f.capped fits q z e g out next new h r (λ q. o.lay 4 n ++ o.lay 4 (q - (h + 4))) refl (omega arith)
+              far-filled b (keeps law) s (p + 6) f.next t bytes (found f.next f.found) (length out) f.capped fits q z e g out next new h r (λ q. o.lay 4 n ++ o.lay 4 (q - (h + 4))) refl (omega arith)
               (put_next ∙ ap (λ y. put y t (zeros (q - t))) (ap (λ y. put y (h + 4) (o.lay 4 (q - (h + 4)))) put-mid ∙ put-put out h (o.lay 4 n) (o.lay 4 (q - (h + 4))) (h + 4) (omega arith) behind-count)) put-new end in
               let same = sym (laid f.next h t f.found) in
               (x.0 ∙ ap (filled out h t) same, x.1 ∙ ap (λ u. u.end) same)

@@ -1,6 +1,6 @@
--- What the pair of a place and a count says. Assumes nothing.
-use Rattle.std.specs.Prelude.{ℕ}
-use Rattle.format.specs.Links.{Span}
+-- What the place and the count of a slice's items in the code say. Assumes nothing.
+use Rattle.format.specs.Links as links
+use Rattle.lists.specs.declared.slice.Span.{Span}
 
-abbrev pub span_of : ℕ × ℕ → Span
-span_of x = record { place = x.0; count = x.1 }
+abbrev pub span_of : Span → links.Span
+span_of x = record { place = x.place; count = x.count }

@@ -1,5 +1,6 @@
 // A count, and a distance to so many values in a row.
 ghost use Rattle.std.specs.Prelude.{◌≡◌};
+ghost use Rattle.format.specs.Items.{row};
 ghost use Rattle.format.specs.Links.{slice as slice_kind, slice_at};
 ghost use Rattle.format.specs.Archive.{slice_step};
 ghost use Rattle.refusal.specs.Told.{told_by};
@@ -14,7 +15,7 @@ use endian::width::{Primitive, Width4};
 use holding::{behind_front, far_tail, held, reach};
 use kind::{Found, Kind, OneStep};
 use refusal::Refusal;
-use rows::{copy_row, deep_row, fill_row, layout_row, row_size, scan_row};
+use rows::Row;
 use sheet::{marks, number};
 use std::marker::PhantomData;
 
@@ -22,6 +23,13 @@ use std::marker::PhantomData;
 const SIZE: usize = 8;
 
 const ALIGN: usize = 4;
+
+// Where the items of a slice are, and how many.
+#[derive(Clone, Copy)]
+struct Span {
+    place: usize,
+    count: u32,
+}
 
 #[derive(Drop)]
 pub struct ZeroSlice<K: Kind, E: Endian> {
@@ -39,18 +47,31 @@ impl<K: Kind, E: Endian> ZeroSlice<K, E> {
         }
     }
 
+    // So many of its items.
+    fn row(&self, count: u32) -> Row<'_, K>
+        ensures { row (K.Kind.meaning result.item.now) result.count ≡ row (K.Kind.meaning self.now.item) count }
+    {
+        Row {
+            item: &self.item,
+            count,
+        }
+    }
+
     // Where the items of the slice at a place are, and how many. The distance of one that has none is ignored.
-    fn span(&self, archive: &[u8], at: usize) -> Result<(usize, u32), Refusal>
+    fn span(&self, archive: &[u8], at: usize) -> Result<Span, Refusal>
         requires { Seated (slice_kind (K.Kind.meaning self.now.item) E.Endian.order) archive.now at }
         ensures { told_by span_of result ≡ slice_at (K.Kind.meaning self.now.item) E.Endian.order archive.now at }
     {
         let count = Width4::take_back::<E>(archive, at);
         if count == 0 {
-            return Ok((at + 4, 0));
+            return Ok(Span {
+                place: at + 4,
+                count,
+            });
         }
-        let size = row_size(&self.item, count);
-        let place = follow::<E>(archive, at + 4, size, self.item.align())?;
-        Ok((place, count))
+        let row = self.row(count);
+        let place = follow::<E>(archive, at + 4, row.size(), row.align())?;
+        Ok(Span { place, count })
     }
 }
 
@@ -69,14 +90,15 @@ impl<K: Kind, E: Endian> Kind for ZeroSlice<K, E> {
 
     fn scan(&self, sheet: &[u8], at: usize) -> Result<usize, Refusal> {
         let count = number::<Width4>(sheet, at, marks::SL)?;
-        held(scan_row(&self.item, count, sheet, at + 6))
+        held(self.row(count).scan(sheet, at + 6))
     }
 
     fn layout(&self, sheet: &[u8], at: &mut usize, tail: usize) -> (usize, usize) {
         let count = Width4::take_back::<LittleEndian>(sheet, *at + 2);
-        *at = *at + 6;
-        let start = far_tail(tail, row_size(&self.item, count), self.item.align());
-        let (end, widest) = layout_row(&self.item, count, sheet, at, start);
+        *at += 6;
+        let row = self.row(count);
+        let start = far_tail(tail, row.size(), row.align());
+        let (end, widest) = row.layout(sheet, at, start);
         (end, widest.max(ALIGN))
     }
 
@@ -89,11 +111,12 @@ impl<K: Kind, E: Endian> Kind for ZeroSlice<K, E> {
         tail: usize,
     ) -> usize {
         let count = Width4::take_back::<LittleEndian>(sheet, *at + 2);
-        *at = *at + 6;
+        *at += 6;
         Width4::lay::<E>(count, out, head);
-        let place = reach::<E>(out, head + 4, tail, self.item.align());
-        let start = place + row_size(&self.item, count);
-        fill_row(&self.item, count, sheet, at, out, place, start)
+        let row = self.row(count);
+        let place = reach::<E>(out, head + 4, tail, row.align());
+        let start = place + row.size();
+        row.fill(sheet, at, out, place, start)
     }
 
     fn shallow(&self, archive: &[u8], at: usize) -> Result<usize, Refusal> {
@@ -102,21 +125,21 @@ impl<K: Kind, E: Endian> Kind for ZeroSlice<K, E> {
     }
 
     fn deep(&self, archive: &[u8], at: usize) -> Result<usize, Refusal> {
-        let (place, count) = self.span(archive, at)?;
+        let Span { place, count } = self.span(archive, at)?;
         if count == 0 {
             return Ok(6);
         }
-        behind_front(deep_row(&self.item, count, archive, place), 6)
+        behind_front(self.row(count).deep(archive, place), 6)
     }
 
     fn copy(&self, archive: &[u8], at: usize, out: &mut [u8], to: usize) -> usize {
-        let (place, count) = self.span(archive, at).unwrap();
+        let Span { place, count } = self.span(archive, at).unwrap();
         put_at(out, to, marks::SL);
         Width4::lay::<LittleEndian>(count, out, to + 2);
         if count == 0 {
             return to + 6;
         }
-        copy_row(&self.item, count, archive, place, out, to + 6)
+        self.row(count).copy(archive, place, out, to + 6)
     }
 }
 
@@ -124,7 +147,7 @@ impl<K: Kind, E: Endian> OneStep for ZeroSlice<K, E> {
     ghost step = { λ k. slice_step (K.Kind.meaning k.item) E.Endian.order };
 
     fn one_step<'a>(&self, archive: &'a [u8], at: usize) -> Result<Found<'a>, Refusal> {
-        let (place, count) = self.span(archive, at)?;
+        let Span { place, count } = self.span(archive, at)?;
         Ok(Found::Items { place, count })
     }
 }

@@ -10,6 +10,9 @@ pub tells_error : {A B : Type 0} (f : A → B) (r : Result A ListError) (a : Ans
 tells_error f (Ok v) a x h t = absurd h
 tells_error f (Err e) a x h t = subst (λ z. TellsError z a) (sym h) t
 
+pub tells_same : {A B : Type 0} (f : A → B) (r : Result A ListError) (a b : Answer B) → a ≡ b → Tells f r a → Tells f r b
+tells_same f r a b e t = subst (Tells f r) e t
+
 -- an error of a part is one of the whole, where the part's refusal is one of the whole
 pub tells_on : {A B : Type 0} (x : ListError) (a : Answer A) (b : Answer B) → ((e : Fault) → bad e ≡ a → bad e ≡ b) → TellsError x a → TellsError x b
 tells_on Memory a b k t = tt

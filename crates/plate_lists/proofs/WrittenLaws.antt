@@ -1,14 +1,14 @@
 -- A sheet that is written within the limit, piece after piece. Assumes nothing.
 use Rattle.std.proofs.Common.{◌≡◌, ℕ, ◌+◌, ◌<◌, ◌≤◌, Bool, true, false, leb, List, [], ◌∷◌, ◌++◌, map, length, get_or, drop, sym, refl, ap, ◌∙◌, subst, append_assoc, arith}
 use Rattle.std.specs.List.{flat_map}
-use Rattle.std.proofs.lemmas.List.{at_drop_more, at_drop_all, append-nil, length-append, length-map}
-use Rattle.std.proofs.lemmas.Bool.{leb-true, leb-false, le-leb, lt-leb}
+use Rattle.std.proofs.lemmas.List.{at_drop_more, length-append, length-map}
+use Rattle.std.proofs.lemmas.Bool.{leb-true, leb-false, lt-leb}
 use Rattle.format.specs.Places.{limit}
 use Rattle.format.specs.Orders.{low_first}
 use Rattle.format.specs.Answers.{Fault, good, bad, unless}
-use Rattle.format.specs.Sheets.{slice_mark, text_mark, number_sheet, text_sheet}
-use Rattle.format.proofs.AnswerLaws.{unless-true, unless-false, unless_parts}
-use Rattle.plate_lists.specs.Lists.{slice_sheet, texts_sheet, limited, counted}
+use Rattle.format.specs.Sheets.{slice_mark, number_sheet}
+use Rattle.format.proofs.AnswerLaws.{unless-false, unless_parts}
+use Rattle.plate_lists.specs.Lists.{slice_sheet, limited, counted}
 
 -- which way a test went, by the answer
 good_by : {A : Type 0} (t : Bool) (e : Fault) (x y : A) → good x ≡ unless t (bad e) (good y) → (t ≡ true) × (x ≡ y)
@@ -18,10 +18,7 @@ bad_by : {A : Type 0} (t : Bool) (e f : Fault) (y : A) → bad f ≡ unless t (b
 bad_by true e f y h = let z : ◌≡◌ {A = ℕ} 0 1 = cc in absurd (omega arith)
 bad_by false e f y h = let z : f ≡ e = cc in (refl, z)
 
--- bytes within the limit, and others
-within : (s bs : List ℕ) → s ≡ bs → length bs ≤ limit → good s ≡ limited bs
-within s bs e h = ap good e ∙ sym (unless-true (leb (length bs) limit) _ _ (le-leb (length bs) limit h))
-
+-- bytes past the limit
 over : (f : Fault) (bs : List ℕ) → f ≡ record { number = 1; place = 0; depth = 0 } → limit < length bs → bad f ≡ limited bs
 over f bs e h = ap bad e ∙ sym (unless-false (leb (length bs) limit) _ _ (lt-leb (length bs) limit h))
 
@@ -29,9 +26,6 @@ over f bs e h = ap bad e ∙ sym (unless-false (leb (length bs) limit) _ _ (lt-l
 pub record Written (whole sheet rest : List ℕ) : Type 0 where
   pub left : sheet ++ rest ≡ whole
   pub room : length sheet ≤ limit
-
-pub written_all : (whole sheet : List ℕ) → Written whole sheet [] → good sheet ≡ limited whole
-written_all whole sheet h = let e = sym (append-nil sheet) ∙ h.left in within sheet whole e (subst (λ z. length z ≤ limit) e h.room)
 
 -- one more piece, or none since it would pass the limit, as then does the whole
 module _ (whole sheet piece rest : List ℕ) (h : Written whole sheet (piece ++ rest)) where
@@ -78,23 +72,6 @@ module _ (start mark : List ℕ) (n : ℕ) (row : List ℕ) (two : length mark �
         let b = length-append mark (low_first 4 n) in
         record { left = ap (λ bs. bs ++ row) p.1 ∙ append_assoc start (number_sheet mark 4 n) row; room = omega arith }
 
-    -- where the count is that of the bytes behind it
-    pub counted_all : (t : List ℕ) → t ≡ s ++ row → length row ≤ n → good t ≡ limited all
-    counted_all t k h =
-        let p = good_by (leb (length start + (6 + n)) limit) _ s (start ++ number_sheet mark 4 n) e in
-        let l = leb-true (length start + (6 + n)) limit p.0 in
-        within t all (k ∙ counted-first.left) (omega (arith, long))
-
-pub counted_pushed : (start mark : List ℕ) (n : ℕ) (was now : List ℕ) → true ≡ leb (length start + (6 + n)) limit → was ≡ start ++ mark → now ≡ was ++ low_first 4 n → good now ≡ counted start mark n
-counted_pushed start mark n was now t e k =
-    ap good (k ∙ (ap (λ bs. bs ++ low_first 4 n) e ∙ append_assoc start mark (low_first 4 n))) ∙ sym (unless-true (leb (length start + (6 + n)) limit) _ _ (sym t))
-
-pub text-some : (l : List ℕ) → 0 < length (text_sheet text_mark l)
-text-some l = omega arith
-
-pub texts_some : (ls : List (List ℕ)) → 0 < length (texts_sheet ls)
-texts_some ls = omega arith
-
 pub length_joined : {X : Type 0} (f : X → List ℕ) → ((x : X) → 0 < length (f x)) → (xs : List X) → length xs ≤ length (flat_map f xs)
 length_joined f some [] = omega arith
 length_joined f some (x ∷ xs) = let h = length_joined f some xs in let k = length-append (f x) (flat_map f xs) in let l = some x in omega arith
@@ -103,45 +80,36 @@ joined_map : {X Y : Type 0} (g : Y → List ℕ) (h : X → Y) (xs : List X) →
 joined_map g h [] = refl
 joined_map g h (x ∷ xs) = ap (λ bs. g (h x) ++ bs) (joined_map g h xs)
 
--- the sheet of a slice of values, which h reads from the items xs: behind start come mark and count, which leave s, then the values in a row
-module _ {X Y : Type 0} (g : Y → List ℕ) (some : (y : Y) → 0 < length (g y)) (h : X → Y) (xs : List X) where
-  abbrev piece : X → List ℕ
-  piece x = g (h x)
+-- the sheet of a slice of values, which h reads from the items xs
+pub slice_read : {X Y : Type 0} (g : Y → List ℕ) (h : X → Y) (xs : List X) → slice_sheet (λ x. g (h x)) xs ≡ slice_sheet g (map h xs)
+slice_read g h xs = ap (λ bs. number_sheet slice_mark 4 (length xs) ++ bs) (joined_map g h xs) ∙ ap (λ n. number_sheet slice_mark 4 n ++ flat_map g (map h xs)) (sym (length-map xs h))
 
+-- the sheet of a slice of values xs: behind start come mark and count, which leave s, then the values in a row
+module _ {X : Type 0} (g : X → List ℕ) (some : (x : X) → 0 < length (g x)) (xs : List X) where
   -- the sheet with the first i of them
   abbrev pub RowWritten : List ℕ → List ℕ → ℕ → Type 0
-  RowWritten s sheet i = Written (s ++ flat_map piece xs) sheet (flat_map piece (drop i xs))
+  RowWritten s sheet i = Written (s ++ flat_map g xs) sheet (flat_map g (drop i xs))
 
   module _ (start : List ℕ) where
     abbrev slice : List ℕ
-    slice = start ++ slice_sheet g (map h xs)
+    slice = start ++ slice_sheet g xs
 
-    same : start ++ (number_sheet slice_mark 4 (length xs) ++ flat_map piece xs) ≡ slice
-    same = ap (λ bs. start ++ (number_sheet slice_mark 4 (length xs) ++ bs)) (joined_map g h xs) ∙ ap (λ n. start ++ (number_sheet slice_mark 4 n ++ flat_map g (map h xs))) (sym (length-map xs h))
-
-    many : length xs ≤ length (flat_map piece xs)
-    many = length_joined piece (λ x. some (h x)) xs
+    many : length xs ≤ length (flat_map g xs)
+    many = length_joined g some xs
 
     pub slice_over : (f : Fault) → bad f ≡ counted start slice_mark (length xs) → bad f ≡ limited slice
-    slice_over f e = counted_over start slice_mark (length xs) (flat_map piece xs) refl many f e ∙ ap limited same
+    slice_over = counted_over start slice_mark (length xs) (flat_map g xs) refl many
 
     module _ (s : List ℕ) (e : good s ≡ counted start slice_mark (length xs)) where
-      first : Written (start ++ (number_sheet slice_mark 4 (length xs) ++ flat_map piece xs)) s (flat_map piece xs)
-      first = counted-first start slice_mark (length xs) (flat_map piece xs) refl many s e
+      first : Written slice s (flat_map g xs)
+      first = counted-first start slice_mark (length xs) (flat_map g xs) refl many s e
 
-      pub row-none : RowWritten s s 0
-      row-none = record { left = refl; room = first.room }
+      module _ (sheet : List ℕ) (i : ℕ) (w : RowWritten s sheet i) (d : X) (l : i < length xs) where
+        here : Written (s ++ flat_map g xs) sheet (g (get_or xs i d) ++ flat_map g (drop (i + 1) xs))
+        here = subst (λ bs. Written (s ++ flat_map g xs) sheet bs) (at_drop_more (flat_map g) xs i d l) w
 
-      module _ (sheet : List ℕ) (i : ℕ) (w : RowWritten s sheet i) where
-        pub row_all : length xs ≤ i → good sheet ≡ limited slice
-        row_all l = written_all _ sheet (subst (λ bs. Written (s ++ flat_map piece xs) sheet bs) (at_drop_all (flat_map piece) xs i l) w) ∙ ap limited (first.left ∙ same)
+        pub row_more : (t : List ℕ) → good t ≡ limited (sheet ++ g (get_or xs i d)) → RowWritten s t (i + 1)
+        row_more = written_more _ sheet _ _ here
 
-        module _ (d : X) (l : i < length xs) where
-          here : Written (s ++ flat_map piece xs) sheet (piece (get_or xs i d) ++ flat_map piece (drop (i + 1) xs))
-          here = subst (λ bs. Written (s ++ flat_map piece xs) sheet bs) (at_drop_more (flat_map piece) xs i d l) w
-
-          pub row_more : (t : List ℕ) → good t ≡ limited (sheet ++ g (h (get_or xs i d))) → RowWritten s t (i + 1)
-          row_more = written_more _ sheet _ _ here
-
-          pub row_over : (f : Fault) → bad f ≡ limited (sheet ++ g (h (get_or xs i d))) → bad f ≡ limited slice
-          row_over f k = written_over _ sheet _ _ here f k ∙ ap limited (first.left ∙ same)
+        pub row_over : (f : Fault) → bad f ≡ limited (sheet ++ g (get_or xs i d)) → bad f ≡ limited slice
+        row_over f k = written_over _ sheet _ _ here f k ∙ ap limited first.left

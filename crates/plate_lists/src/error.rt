@@ -4,12 +4,16 @@ ghost use Rattle.plate_lists.specs.declared.error.ListError.TheVariants.{Memory,
 
 use refusal::Refusal;
 use std::alloc::{AllocError, AllocFailed};
-use std::fmt;
+use thiserror::Error;
 
-#[derive(Debug, Drop)]
+// `From` stands by hand, since the contracts name the error that a `?` makes, and that of `#[from]` has no contract.
+#[derive(Debug, Drop, Error)]
 pub enum ListError {
+    #[error("out of memory")]
     Memory,
+    #[error("the plate has no cast")]
     NoCast,
+    #[error(transparent)]
     Refused(Refusal),
 }
 
@@ -34,15 +38,5 @@ impl From<Refusal> for ListError {
 
     fn from(e: Refusal) -> ListError {
         ListError::Refused(e)
-    }
-}
-
-impl fmt::Display for ListError {
-    fn fmt<W: fmt::Write>(&self, f: &mut fmt::Formatter<W>) -> fmt::Result {
-        match self {
-            ListError::Memory => write!(f, "out of memory"),
-            ListError::NoCast => write!(f, "the plate has no cast"),
-            ListError::Refused(refusal) => write!(f, "{refusal}"),
-        }
     }
 }

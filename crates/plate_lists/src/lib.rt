@@ -1,15 +1,17 @@
-// A plate list, line by line and field by field, and the sheets of what its fields say.
+// A plate list, line by line and field by field, the sheets of what its fields say, and the words that such a sheet is read back by.
 #![tactic(auto)]
 
 mod error;
 mod plate;
 mod split;
 mod texts;
+mod words;
 
 pub use error::ListError;
 pub use plate::{Plate, plate_of};
 pub use split::{lines, pieces};
 pub use texts::{sheet_of_lists, sheet_of_texts};
+pub use words::list_words;
 
 #[cfg(test)]
 mod tests {
@@ -24,6 +26,19 @@ mod tests {
             sheet.as_slice(),
             b"SL\x03\0\0\0TX\x02\0\0\0abTX\0\0\0\0TX\x01\0\0\0c".as_slice()
         );
+        Ok(())
+    }
+
+    #[test]
+    fn a_list_is_read_back(rt: HostRuntime) -> Result<(), Fail> {
+        let texts = lines(rt.alloc(), b"ab\n\nc")?;
+        let sheet = sheet_of_texts(rt.alloc(), texts.as_slice())?;
+        assert_eq!(rt;
+            sheet.as_slice(),
+            b"SL\x03\0\0\0TX\x02\0\0\0abTX\0\0\0\0TX\x01\0\0\0c".as_slice()
+        );
+        let words = list_words(rt.alloc(), sheet.as_slice())?;
+        assert_eq!(rt; words.len(), 3);
         Ok(())
     }
 

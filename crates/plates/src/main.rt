@@ -2,59 +2,57 @@
 #![tactic(auto)]
 
 use anyhow::anyhow;
-use listing::{ListError, lines, list_words, sheet_of_texts};
+use plate_lists::{ListError, lines, list_words, sheet_of_texts};
 use refusal::Refusal;
 use sheet::Word;
 use std::alloc::Global;
-use std::io::Read;
-use std::{env, fs, str};
+use std::io::{self, Read};
+use std::{env, fs, mem, str};
 
 // The bytes of the file that the first word names; of standard input where there is none.
 fn input(rt: &HostRuntime) -> anyhow::Result<Vec<u8>> {
-    let mut args = env::args(rt)?;
-    let _program = args.next();
-    if let Some(path) = args.next()
-        && path.as_str() != "-"
-    {
-        return match fs::read(rt, path.as_str()) {
-            Ok(bytes) => Ok(bytes),
-            Err(e) => {
-                eprintln!(rt; "plates: cannot read {path}")?;
-                Err(e.into())
-            }
-        };
+    match env::args(rt)?.nth(1) {
+        Some(path) if path.as_str() != "-" => fs::read(rt, path.as_str()).or_else(|e| {
+            eprintln!(rt; "plates: cannot read {path}")?;
+            Err(e.into())
+        }),
+        _ => {
+            let mut bytes = Vec::new(rt.alloc());
+            rt.stdin().read_to_end(&mut bytes)?;
+            Ok(bytes)
+        }
     }
-    let mut bytes = Vec::new(rt.alloc());
-    rt.stdin().read_to_end(&mut bytes)?;
-    Ok(bytes)
 }
 
 // The number of the line, from 1, whose text has its mark at a place of the sheet.
 fn line_at(texts: &[&[u8]], place: usize) -> Option<usize> {
-    let mut at = 6usize;
-    for (i, text) in texts.iter().enumerate() {
-        if at == place {
-            return i.checked_add(1);
-        }
-        at = at.checked_add(6)?.checked_add(text.len())?;
-    }
-    None
+    let index = texts
+        .iter()
+        .scan(6usize, |next, text| {
+            let behind = next.saturating_add(6).saturating_add(text.len());
+            Some(mem::replace(next, behind))
+        })
+        .position(|mark| mark == place)?;
+    Some(index + 1)
 }
 
-fn refused(rt: &HostRuntime, texts: &[&[u8]], refusal: Refusal) -> anyhow::Result<()> {
+fn refused(rt: &HostRuntime, texts: &[&[u8]], refusal: Refusal) -> io::Result<()> {
     match line_at(texts, refusal.place) {
         Some(line) if refusal.depth == 1 => eprintln!(rt;
             "plates: line {line} of the list is refused: {refusal}"
-        )?,
-        _ => eprintln!(rt; "plates: the list is refused: {refusal}")?,
+        ),
+        _ => eprintln!(rt; "plates: the list is refused: {refusal}"),
     }
-    Err(anyhow!("nothing was written"))
 }
 
-fn stopped(rt: &HostRuntime, texts: &[&[u8]], error: ListError) -> anyhow::Result<()> {
+// The error to end with where a list is not shown; a refusal is told first.
+fn stopped(rt: &HostRuntime, texts: &[&[u8]], error: ListError) -> anyhow::Error {
     match error {
-        ListError::Refused(refusal) => refused(rt, texts, refusal),
-        ListError::Memory => Err(anyhow!("out of memory")),
+        ListError::Refused(refusal) => match refused(rt, texts, refusal) {
+            Ok(()) => anyhow!("nothing was written"),
+            Err(e) => e.into(),
+        },
+        other => other.into(),
     }
 }
 
@@ -66,18 +64,20 @@ fn show_text(rt: &HostRuntime, index: usize, place: usize, bytes: &[u8]) -> anyh
 }
 
 fn show(rt: &HostRuntime, words: &[Word], sheet_length: usize) -> anyhow::Result<()> {
-    let mut bytes_in_all = 0usize;
-    let mut empty = 0usize;
     for (index, word) in words.iter().enumerate() {
         if let Word::Text { place, bytes } = *word {
             show_text(rt, index, place, bytes)?;
-            bytes_in_all = bytes_in_all.saturating_add(bytes.len());
-            if bytes.is_empty() {
-                empty = empty.saturating_add(1);
-            }
         }
     }
+    let lengths = || {
+        words.iter().filter_map(|word| match word {
+            Word::Text { bytes, .. } => Some(bytes.len()),
+            _ => None,
+        })
+    };
     let count = words.len();
+    let empty = lengths().filter(|length| *length == 0).count();
+    let bytes_in_all = lengths().fold(0, usize::saturating_add);
     println!(rt;
         "{count} plates, {empty} of them without a number; {bytes_in_all} bytes of text in a sheet of {sheet_length} bytes"
     )?;
@@ -85,14 +85,9 @@ fn show(rt: &HostRuntime, words: &[Word], sheet_length: usize) -> anyhow::Result
 }
 
 fn show_list(rt: &HostRuntime, heap: Global, texts: &[&[u8]]) -> anyhow::Result<()> {
-    let sheet = match sheet_of_texts(heap, texts) {
-        Ok(sheet) => sheet,
-        Err(error) => return stopped(rt, texts, error),
-    };
-    match list_words(heap, sheet.as_slice()) {
-        Ok(words) => show(rt, words.as_slice(), sheet.len()),
-        Err(error) => stopped(rt, texts, error),
-    }
+    let sheet = sheet_of_texts(heap, texts).map_err(|error| stopped(rt, texts, error))?;
+    let words = list_words(heap, sheet.as_slice()).map_err(|error| stopped(rt, texts, error))?;
+    show(rt, words.as_slice(), sheet.len())
 }
 
 fn run(rt: &HostRuntime) -> anyhow::Result<()> {

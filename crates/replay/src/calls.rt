@@ -1,69 +1,73 @@
 // The calls that are made with a kind.
 use crate::desk::Desk;
-use crate::trouble::Trouble;
+use crate::said::Said;
+use crate::trouble::{Trouble, Unread};
 use archive::{copy_out, get, is_valid, is_valid_deep};
 use kind::{Found, Kind, OneStep};
 
 // A value's head in an archive.
-#[derive(Clone, Copy)]
-pub struct Root<'a> {
-    pub archive: &'a [u8],
+#[derive(Drop)]
+pub struct Root {
+    pub archive: Vec<u8>,
     pub place: usize,
 }
 
-#[derive(Clone, Copy)]
-pub enum Call<'a> {
-    Scan(&'a [u8]),
-    Shallow(Root<'a>),
-    Deep(Root<'a>),
-    Get(Root<'a>),
-    Copy(Root<'a>, usize),
-    Reserve,
-    Push(&'a [u8]),
-    Build(&'a [u8]),
-}
-
-// What a call answers.
 #[derive(Drop)]
-pub enum Said {
-    Nothing,
-    Number(usize),
-    Pair(usize, usize),
-    // The place of a text and its bytes, or the length of a sheet and all of the output.
-    Bytes(usize, Vec<u8>),
-    // A length, an alignment, and an archive.
-    Archive(usize, usize, Vec<u8>),
+pub enum Call {
+    Scan(Vec<u8>),
+    Shallow(Root),
+    Deep(Root),
+    Get(Root),
+    Copy(Root, usize),
+    Reserve,
+    Push(Vec<u8>),
+    Build(Vec<u8>),
 }
 
-pub fn step<K: OneStep>(kind: &K, root: Root, desk: &Desk) -> Result<Said, Trouble> {
-    match get(kind, root.archive, root.place)? {
-        Found::Target { place } => Ok(Said::Number(place)),
-        Found::Items { place, count } => Ok(Said::Pair(place, count as usize)),
-        Found::Text(part) => Ok(Said::Bytes(part.place, desk.copied(part.bytes)?)),
+// A call that waits for its kind, with what it is made on.
+#[derive(Drop)]
+pub struct Request<'a> {
+    pub call: Call,
+    pub desk: &'a mut Desk,
+    pub buffer: &'a mut [u8],
+}
+
+impl Request<'_> {
+    // With a kind of one step.
+    pub fn step<K: OneStep>(self, kind: &K) -> Result<Said, Trouble> {
+        let Request { call, desk, buffer } = self;
+        let Call::Get(root) = call else {
+            return Request { call, desk, buffer }.make(kind);
+        };
+        match get(kind, root.archive.as_slice(), root.place)? {
+            Found::Target { place } => Ok(Said::Number(place)),
+            Found::Items { place, count } => Ok(Said::Pair(place, count as usize)),
+            Found::Text(part) => Ok(Said::Bytes(part.place, desk.copied(part.bytes)?)),
+        }
     }
-}
 
-fn copy<K: Kind>(kind: &K, root: Root, room: usize, desk: &Desk) -> Result<Said, Trouble> {
-    let mut output = desk.filled(room)?;
-    let length = copy_out(kind, root.archive, root.place, output.as_mut_slice())?;
-    Ok(Said::Bytes(length, output))
-}
-
-// All but one step, which not every kind has.
-pub fn make<K: Kind>(
-    kind: &K,
-    call: Call,
-    desk: &mut Desk,
-    buffer: &mut [u8],
-) -> Result<Said, Trouble> {
-    match call {
-        Call::Scan(sheet) => Ok(Said::Number(kind.scan(sheet, 0)?)),
-        Call::Shallow(root) => Ok(Said::Number(is_valid(kind, root.archive, root.place)?)),
-        Call::Deep(root) => Ok(Said::Number(is_valid_deep(kind, root.archive, root.place)?)),
-        Call::Get(_) => Err(Trouble::Unread("this kind has no get")),
-        Call::Copy(root, room) => copy(kind, root, room, desk),
-        Call::Reserve => Ok(Said::Number(desk.builder.reserve(buffer, kind)?)),
-        Call::Push(bytes) => Ok(Said::Number(desk.builder.push(buffer, kind, bytes)?)),
-        Call::Build(sheet) => Ok(Said::Number(desk.builder.build(buffer, kind, sheet)?)),
+    // With any kind; but one step is not for each.
+    pub fn make<K: Kind>(self, kind: &K) -> Result<Said, Trouble> {
+        let Request { call, desk, buffer } = self;
+        let number = match call {
+            Call::Scan(sheet) => kind.scan(sheet.as_slice(), 0)?,
+            Call::Shallow(root) => is_valid(kind, root.archive.as_slice(), root.place)?,
+            Call::Deep(root) => is_valid_deep(kind, root.archive.as_slice(), root.place)?,
+            Call::Get(_) => return Err(Unread::NoGet.into()),
+            Call::Copy(root, room) => {
+                let mut output = desk.filled(room)?;
+                let length = copy_out(
+                    kind,
+                    root.archive.as_slice(),
+                    root.place,
+                    output.as_mut_slice(),
+                )?;
+                return Ok(Said::Bytes(length, output));
+            }
+            Call::Reserve => desk.builder()?.reserve(buffer, kind)?,
+            Call::Push(bytes) => desk.builder()?.push(buffer, kind, bytes.as_slice())?,
+            Call::Build(sheet) => desk.builder()?.build(buffer, kind, sheet.as_slice())?,
+        };
+        Ok(Said::Number(number))
     }
 }

@@ -1,29 +1,50 @@
 // Why a call gives no answer of its own: it is refused, or it cannot be made.
+use hex::FromHexError;
 use refusal::Refusal;
-use std::alloc::{AllocError, AllocFailed};
+use std::alloc::AllocError;
+use thiserror::Error;
 
-#[derive(Drop)]
+// What is wrong with a line that is no call.
+#[derive(Clone, Copy, Debug, Error)]
+pub enum Unread {
+    #[error("a word is missing")]
+    NoWord,
+    #[error("a number was expected")]
+    NoNumber,
+    #[error("hexadecimal digits were expected")]
+    NoDigits,
+    #[error("an odd number of hexadecimal digits")]
+    OddDigits,
+    #[error("an order is l or b")]
+    NoOrder,
+    #[error("no such kind in the catalogue")]
+    NoKind,
+    #[error("this kind has no get")]
+    NoGet,
+    #[error("no builder is open")]
+    NoBuilder,
+    #[error("no such call")]
+    NoCall,
+}
+
+#[derive(Debug, Drop, Error)]
 pub enum Trouble {
-    Refused(Refusal),
-    // A line that is no call, with what is wrong with it.
-    Unread(&'static str),
-    Memory,
+    #[error("refused {} {} {}", .0.cause.number(), .0.place, .0.depth)]
+    Refused(#[from] Refusal),
+    #[error("not a call: {0}")]
+    Unread(#[from] Unread),
+    #[error("not made: out of memory")]
+    Memory(#[from(alloc)] AllocError),
 }
 
-impl From<Refusal> for Trouble {
-    fn from(refusal: Refusal) -> Trouble {
-        Trouble::Refused(refusal)
-    }
-}
-
-impl From<AllocError> for Trouble {
-    fn from(_error: AllocError) -> Trouble {
-        Trouble::Memory
-    }
-}
-
-impl<T: Drop> From<AllocFailed<T>> for Trouble {
-    fn from(_error: AllocFailed<T>) -> Trouble {
-        Trouble::Memory
+impl From<FromHexError> for Trouble {
+    fn from(error: FromHexError) -> Trouble {
+        match error {
+            FromHexError::OddLength => Unread::OddDigits.into(),
+            FromHexError::InvalidHexCharacter { .. } | FromHexError::InvalidStringLength => {
+                Unread::NoDigits.into()
+            }
+            FromHexError::OutOfMemory => AllocError.into(),
+        }
     }
 }

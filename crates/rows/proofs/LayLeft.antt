@@ -97,6 +97,10 @@ pub fill_left :
     {m : Meaning} {n : ℕ} {s : List ℕ} {p : ℕ} {first : List ℕ} {h t j k q : ℕ} {out : List ℕ} {g e : ℕ} → j ≡ k → FillLeft m n s p first h t j q out g e → FillLeft m n s p first h t k q out g e
 fill_left {m} {n} {s} {p} {first} {h} {t} {j} {k} {q} {out} {g} {e} f l = subst (λ z. FillLeft m n s p first h t z q out g e) f l
 
+pub fill_from :
+    {m : Meaning} {n : ℕ} {s : List ℕ} {p : ℕ} {first : List ℕ} {h t k q : ℕ} {out : List ℕ} {f g e : ℕ} → f ≡ g → FillLeft m n s p first h t k q out f e → FillLeft m n s p first h t k q out g e
+fill_from {m} {n} {s} {p} {first} {h} {t} {k} {q} {out} {f} {g} {e} i l = subst (λ z. FillLeft m n s p first h t k q out z e) i l
+
 pub fill_none : (m : Meaning) (n : ℕ) (s : List ℕ) (p : ℕ) (out : List ℕ) (h t : ℕ) → Fillable (row m n) s p out h t → FillLeft m n s p out h t n p out h t
 fill_none m n s p out h t f = record {
   rest = f;
@@ -155,16 +159,16 @@ module _ {m : Meaning} {n : ℕ} {s : List ℕ} {p : ℕ} {first : List ℕ} {h 
     fill_item = let x = found-more m s k q l.rest.next l.rest.found in item_at x.0 x.1.0
 
     pub fill_more :
-        (r : ℕ) (new : List ℕ) (f z : ℕ) → Next m s q r → new ≡ filled out g e (m.lay (value_at m s q) g e) → f ≡ (m.lay (value_at m s q) g e).end → z ≡ m.size → length new ≡ length out →
-        FillLeft m n s p first h t k r new (g + z) f
+        (r : ℕ) (new : List ℕ) (f z : ℕ) → Next m s q r → new ≡ filled out g e (m.lay (value_at m s q) g e) → f ≡ (m.lay (value_at m s q) g e).end → z ≡ g + m.size → length new ≡ length out →
+        FillLeft m n s p first h t k r new z f
     fill_more r new f z next put-here ends size long =
         let x = m.lay (value_at m s q) g e in
         let y = split r next in
         let placed = value_placed m law.keeps s q bytes out g e (item_at r next) in
         let head_long = law.keeps.head_long (value_at m s q) g e placed in
         let tail_long = law.keeps.tail_long (value_at m s q) g e placed in
-        let others = laid m s k r (g + z) f in
-        let same : laid m s (suc k) q g e ≡ beside x others = y.same ∙ (ap (λ i. beside x (laid m s k r (g + i) x.end)) (sym size) ∙ ap (λ i. beside x (laid m s k r (g + z) i)) (sym ends)) in
+        let others = laid m s k r z f in
+        let same : laid m s (suc k) q g e ≡ beside x others = y.same ∙ (ap (λ i. beside x (laid m s k r i x.end)) (sym size) ∙ ap (λ i. beside x (laid m s k r z i)) (sym ends)) in
         let o = l.rest in
         let starts = o.starts in
         let capped = o.capped in
@@ -184,7 +188,7 @@ module _ {m : Meaning} {n : ℕ} {s : List ℕ} {p : ℕ} {first : List ℕ} {h 
           rest = record {
             next = o.next;
             found = y.others;
-            aligned = ap (λ i. (g + i) % m.align) size ∙ mod_sum m.align g m.size o.aligned law.keeps.whole;
+            aligned = ap (λ i. i % m.align) size ∙ mod_sum m.align g m.size o.aligned law.keeps.whole;
             behind = omega arith;
             starts = omega arith;
             room = omega arith;

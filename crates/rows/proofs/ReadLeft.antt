@@ -1,5 +1,5 @@
 -- A row that is read item by item: what is left answers for the whole. Assumes nothing.
-use Rattle.std.proofs.Common.{◌≡◌, ℕ, zero, suc, ◌+◌, ◌-◌, ◌*◌, ◌%◌, ◌<◌, ◌≤◌, min, List, ◌++◌, length, Some, sym, refl, ap, ◌∙◌, mul-le-mul_right, add-mul, mul-zero, mul-suc, arith}
+use Rattle.std.proofs.Common.{◌≡◌, ℕ, zero, suc, ◌+◌, ◌-◌, ◌*◌, ◌%◌, ◌^◌, ◌<◌, ◌≤◌, min, List, ◌++◌, length, Some, sym, refl, ap, ◌∙◌, mul-le-mul_right, add-mul, add-one, mul-zero, mul-suc, arith}
 use native.Mathlib.Nat.{sub-zero}
 use Rattle.std.proofs.lemmas.List.{length-append}
 use Rattle.format.specs.Answers.{Answer, Fault, good, bad, both}
@@ -16,55 +16,63 @@ left_suc n i h = omega arith
 pub left_zero : (n i : ℕ) → n ≤ i → n - i ≡ 0
 left_zero n i h = omega arith
 
--- q is the head behind i items from p on
-pub record HeadAt (m : Meaning) (p i q : ℕ) : Type 0 where
-  pub place : q ≡ p + i * m.size
-  pub aligned : q % m.align ≡ 0
+-- the head behind i items, the first of which is at p
+abbrev pub head : Meaning → (p i : ℕ) → ℕ
+head m p i = p + i * m.size
 
-pub head-none : (m : Meaning) (p : ℕ) → p % m.align ≡ 0 → HeadAt m p 0 p
-head-none m p h = record { place = omega arith; aligned = h }
+pub head-none : (m : Meaning) (p : ℕ) → head m p 0 ≡ p
+head-none m p = omega arith
 
-module _ {m : Meaning} {p i q : ℕ} (k : Keeps m) (l : HeadAt m p i q) where
-  pub head_more : (z : ℕ) → z ≡ m.size → HeadAt m p (i + 1) (q + z)
-  head_more z e = record {
-    place = let f = add-mul i 1 m.size in let o = l.place in omega arith;
-    aligned = ap (λ z. (q + z) % m.align) e ∙ mod_sum m.align q m.size l.aligned k.whole;
-  }
+pub head-more : (m : Meaning) (p i : ℕ) → head m p (i + 1) ≡ head m p i + m.size
+head-more m p i = let e = add-mul i 1 m.size in omega arith
 
-  pub head-seated : (n : ℕ) (a : List ℕ) → Seated (row m n) a p → i < n → Seated m a q
-  head-seated n a w h = record {
+head_aligned : (m : Meaning) → Keeps m → (p i : ℕ) → p % m.align ≡ 0 → head m p i % m.align ≡ 0
+head_aligned m k p zero h = ap (λ z. z % m.align) (head-none m p) ∙ h
+head_aligned m k p (suc i) h =
+    ap (λ z. head m p z % m.align) (sym (add-one i)) ∙ (ap (λ z. z % m.align) (head-more m p i) ∙ mod_sum m.align (head m p i) m.size (head_aligned m k p i h) k.whole)
+
+module _ (m : Meaning) (n : ℕ) {a : List ℕ} {p : ℕ} (w : Seated (row m n) a p) where
+  pub head_within : (i : ℕ) → i ≤ n → head m p i ≤ length a
+  head_within i h =
+      let f : i * m.size ≤ n * m.size = mul-le-mul_right m.size h in
+      let c = w.capped in
+      let d = w.within in
+      omega arith
+
+  pub head_fits : (i : ℕ) → i ≤ n → head m p i < 2 ^ 64
+  head_fits i h = let f = head_within i h in let c = w.capped in omega arith
+
+  pub head-seated : Keeps m → (i q : ℕ) → i < n → q ≡ head m p i → Seated m a q
+  head-seated k i q h e = record {
     capped = w.capped;
-    within =
-        let e = add-mul i 1 m.size in
-        let z : i + 1 ≤ n = omega arith in
-        let f : (i + 1) * m.size ≤ n * m.size = mul-le-mul_right m.size z in
-        let o = l.place in
-        let c = w.capped in
-        let d = w.within in
-        omega arith;
-    aligned = l.aligned;
+    within = let f = head_within (i + 1) (omega arith) in let g = head-more m p i in omega arith;
+    aligned = ap (λ z. z % m.align) e ∙ head_aligned m k p i w.aligned;
   }
 
 -- one look at each head
-pub record ShallowLeft (m : Meaning) (n : ℕ) (a : List ℕ) (p i q : ℕ) : Type 0 where
-  pub head : HeadAt m p i q
-  pub whole : shallow_items m n a p ≡ shallow_items m (n - i) a q
+pub record ShallowLeft (m : Meaning) (n : ℕ) (a : List ℕ) (p i : ℕ) : Type 0 where
+  pub whole : shallow_items m n a p ≡ shallow_items m (n - i) a (head m p i)
 
-pub shallow-none : (m : Meaning) (n : ℕ) (a : List ℕ) (p : ℕ) → Seated (row m n) a p → ShallowLeft m n a p 0 p
-shallow-none m n a p w = record { head = head-none m p w.aligned; whole = ap (λ z. shallow_items m z a p) (sym (sub-zero n)) }
+pub shallow-none : (m : Meaning) (n : ℕ) (a : List ℕ) (p : ℕ) → ShallowLeft m n a p 0
+shallow-none m n a p = record { whole = ap (λ z. shallow_items m z a p) (sym (sub-zero n)) ∙ ap (shallow_items m (n - 0) a) (sym (head-none m p)) }
 
-module _ {m : Meaning} {n : ℕ} {a : List ℕ} {p i q : ℕ} (l : ShallowLeft m n a p i q) where
-  pub shallow-more : Keeps m → i < n → (r z : ℕ) → m.shallow a q ≡ good r → z ≡ m.size → ShallowLeft m n a p (i + 1) (q + z)
-  shallow-more k h r z e f = record {
-    head = head_more k l.head z f;
-    whole = l.whole ∙ (ap (λ z. shallow_items m z a q) (left_suc n i h) ∙ (both-good (m.shallow a q) r _ e ∙ ap (λ z. shallow_items m (n - (i + 1)) a (q + z)) (sym f)));
-  }
+module _ {m : Meaning} {n : ℕ} {a : List ℕ} {p i : ℕ} (l : ShallowLeft m n a p i) where
+  module _ (h : i < n) (q : ℕ) (e : q ≡ head m p i) where
+    looked : shallow_items m n a p ≡ both (m.shallow a q) (λ _. shallow_items m (n - (i + 1)) a (head m p (i + 1)))
+    looked =
+        l.whole ∙ (ap (λ z. shallow_items m z a (head m p i)) (left_suc n i h) ∙
+        (ap (λ z. both (m.shallow a (head m p i)) (λ _. shallow_items m (n - (i + 1)) a z)) (sym (head-more m p i)) ∙ ap (λ z. both (m.shallow a z) (λ _. shallow_items m (n - (i + 1)) a (head m p (i + 1)))) (sym e)))
 
-  pub shallow-bad : i < n → (f : Fault) → m.shallow a q ≡ bad f → shallow_items m n a p ≡ bad f
-  shallow-bad h f e = l.whole ∙ (ap (λ z. shallow_items m z a q) (left_suc n i h) ∙ both-bad (m.shallow a q) f _ e)
+    pub shallow-more : (r : ℕ) → m.shallow a q ≡ good r → ShallowLeft m n a p (i + 1)
+    shallow-more r f = record { whole = looked ∙ both-good (m.shallow a q) r _ f }
 
-  pub shallow_all : n ≤ i → shallow_items m n a p ≡ good q
-  shallow_all h = l.whole ∙ ap (λ z. shallow_items m z a q) (left_zero n i h)
+    pub shallow-bad : (f : Fault) → m.shallow a q ≡ bad f → shallow_items m n a p ≡ bad f
+    shallow-bad f g = looked ∙ both-bad (m.shallow a q) f _ g
+
+  pub shallow_all : n ≤ i → i ≤ n → (q : ℕ) → q ≡ head m p n → shallow_items m n a p ≡ good q
+  shallow_all h g q e =
+      let same : i ≡ n = omega arith in
+      l.whole ∙ (ap (λ z. shallow_items m z a (head m p i)) (left_zero n i h) ∙ ap good (ap (head m p) same ∙ sym e))
 
 -- all that is read from each head: t bytes, and what is left
 abbrev most : ℕ
@@ -73,20 +81,18 @@ most = 18446744073709551615
 abbrev after : ℕ → Answer ℕ → Answer ℕ
 after t x = both x (λ r. good (min (t + r) most))
 
-pub record DeepLeft (m : Meaning) (n : ℕ) (a : List ℕ) (p i q t : ℕ) : Type 0 where
-  pub head : HeadAt m p i q
+pub record DeepLeft (m : Meaning) (n : ℕ) (a : List ℕ) (p i t : ℕ) : Type 0 where
   pub capped : t ≤ most
-  pub whole : length_read (read_items m n a p) ≡ after t (length_read (read_items m (n - i) a q))
+  pub whole : length_read (read_items m n a p) ≡ after t (length_read (read_items m (n - i) a (head m p i)))
 
 after_none : (x : Answer (List ℕ)) → length_read x ≡ after 0 (length_read x)
 after_none (good s) = let k : min (length s) most ≡ min (0 + min (length s) most) most = omega arith in ap good k
 after_none (bad f) = refl
 
-pub deep_none : (m : Meaning) (n : ℕ) (a : List ℕ) (p : ℕ) → Seated (row m n) a p → DeepLeft m n a p 0 p 0
-deep_none m n a p w = record {
-  head = head-none m p w.aligned;
+pub deep_none : (m : Meaning) (n : ℕ) (a : List ℕ) (p : ℕ) → DeepLeft m n a p 0 0
+deep_none m n a p = record {
   capped = omega arith;
-  whole = after_none (read_items m n a p) ∙ ap (λ z. after 0 (length_read (read_items m z a p))) (sym (sub-zero n));
+  whole = after_none (read_items m n a p) ∙ (ap (λ z. after 0 (length_read (read_items m z a p))) (sym (sub-zero n)) ∙ ap (λ z. after 0 (length_read (read_items m (n - 0) a z))) (sym (head-none m p)));
 }
 
 -- one item before the others
@@ -105,25 +111,30 @@ one-bad : (t : ℕ) (f : Fault) (x y : Answer (List ℕ)) → length_read x ≡ 
 one-bad t f (bad g) y e = let z : g ≡ f = cc in ap bad z
 one-bad t f (good s) y e = let z : ◌≡◌ {A = ℕ} 0 1 = cc in absurd (omega arith)
 
-module _ {m : Meaning} {n : ℕ} {a : List ℕ} {p i q t : ℕ} (l : DeepLeft m n a p i q t) where
-  next : i < n → length_read (read_items m n a p) ≡ after t (length_read (read_items m (suc (n - (i + 1))) a q))
-  next h = l.whole ∙ ap (λ z. after t (length_read (read_items m z a q))) (left_suc n i h)
+module _ {m : Meaning} {n : ℕ} {a : List ℕ} {p i t : ℕ} (l : DeepLeft m n a p i t) where
+  module _ (h : i < n) (q : ℕ) (e : q ≡ head m p i) where
+    rest : Answer (List ℕ)
+    rest = read_items m (n - (i + 1)) a (head m p (i + 1))
 
-  pub deep_more : Keeps m → i < n → (d u z : ℕ) → length_read (m.reading a q) ≡ good d → u ≡ min (t + d) most → z ≡ m.size → DeepLeft m n a p (i + 1) (q + z) u
-  deep_more k h d u z e f g = record {
-    head = head_more k l.head z g;
-    capped = omega arith;
-    whole = next h ∙ (one_more t d u (m.reading a q) (read_items m (n - (i + 1)) a (q + m.size)) e f ∙ ap (λ z. after u (length_read (read_items m (n - (i + 1)) a (q + z)))) (sym g));
-  }
+    read : length_read (read_items m n a p) ≡ after t (length_read (both (m.reading a q) (λ s. both rest (λ r. good (s ++ r)))))
+    unfolding rest
+    read =
+        l.whole ∙ (ap (λ z. after t (length_read (read_items m z a (head m p i)))) (left_suc n i h) ∙
+        (ap (λ z. after t (length_read (both (m.reading a (head m p i)) (λ s. both (read_items m (n - (i + 1)) a z) (λ r. good (s ++ r)))))) (sym (head-more m p i)) ∙
+        ap (λ z. after t (length_read (both (m.reading a z) (λ s. both rest (λ r. good (s ++ r)))))) (sym e)))
 
-  pub deep-bad : i < n → (f : Fault) → length_read (m.reading a q) ≡ bad f → length_read (read_items m n a p) ≡ bad f
-  deep-bad h f e = next h ∙ one-bad t f (m.reading a q) (read_items m (n - (i + 1)) a (q + m.size)) e
+    pub deep_more : (d u : ℕ) → length_read (m.reading a q) ≡ good d → u ≡ min (t + d) most → DeepLeft m n a p (i + 1) u
+    unfolding rest
+    deep_more d u f g = record { capped = omega arith; whole = read ∙ one_more t d u (m.reading a q) rest f g }
+
+    pub deep-bad : (f : Fault) → length_read (m.reading a q) ≡ bad f → length_read (read_items m n a p) ≡ bad f
+    deep-bad f g = read ∙ one-bad t f (m.reading a q) rest g
 
   pub deep_all : n ≤ i → length_read (read_items m n a p) ≡ good t
   deep_all h =
       let c = l.capped in
       let k : min (t + min 0 most) most ≡ t = omega arith in
-      l.whole ∙ (ap (λ z. after t (length_read (read_items m z a q))) (left_zero n i h) ∙ ap good k)
+      l.whole ∙ (ap (λ z. after t (length_read (read_items m z a (head m p i)))) (left_zero n i h) ∙ ap good k)
 
 -- items that are always read, with a sheet of k bytes each
 pub deep_always : (m : Meaning) (k : ℕ) → Always m (Some k) → (n : ℕ) (a : List ℕ) (p : ℕ) → length_read (read_items m n a p) ≡ good (min (k * n) most)

@@ -1,17 +1,19 @@
 // Runs samples: sequences that are text or not, words of sheets, values in archives, and a count of all short texts.
 #![tactic(auto)]
 
-ghost use Rattle.std.specs.Prelude.{◌≡◌};
+ghost use Rattle.std.specs.Prelude.{◌≡◌, ◌≤◌};
 ghost use Rattle.format.specs.Samples.{Worked, Stepped};
 
 use archive::{is_valid, is_valid_deep};
 use endian::order::{BigEndian, Endian, LittleEndian};
 use endian::width::{Width1, Width2, Width4, Width8};
+use hex::FromHex;
 use kind::Kind;
 use refusal::Refusal;
 use scalars::{Character, Number, ScalarKind, Truth};
 use sheet::{Form, Read, Word};
 use std::alloc::{AllocError, Global};
+use std::fmt;
 use texts::{ZeroStr, ZeroString};
 use utf8::is_text;
 
@@ -24,35 +26,21 @@ pub fn worked_samples() -> u8
     19
 }
 
-fn digit(b: u8) -> Option<u8> {
-    match b {
-        b'0'..=b'9' => Some(b - b'0'),
-        b'A'..=b'F' => Some(b - b'A' + 10),
-        _ => None,
-    }
-}
-
-// The byte that two hexadecimal digits write.
+// The byte that two hexadecimal digits write; small letters are none.
 fn byte(word: &str) -> Option<u8> {
-    let digits = word.as_bytes();
-    if digits.len() != 2 {
+    if word.bytes().any(|b| b.is_ascii_lowercase()) {
         return None;
     }
-    match (digit(digits[0]), digit(digits[1])) {
-        (Some(high), Some(low)) => high.checked_mul(16)?.checked_add(low),
-        _ => None,
-    }
+    let [byte] = <[u8; 1] as FromHex>::from_hex(word).ok()?;
+    Some(byte)
 }
 
 // The bytes that a line writes behind its first words.
 fn bytes(heap: Global, line: &str, skip: usize) -> Result<Vec<u8>, AllocError> {
-    let mut found = Vec::new(heap);
-    for word in line.split_whitespace().skip(skip) {
-        if let Some(b) = byte(word) {
-            found.push(b)?;
-        }
-    }
-    Ok(found)
+    line.split_whitespace()
+        .skip(skip)
+        .filter_map(byte)
+        .collect(heap)
 }
 
 fn form(name: &str) -> Option<Form> {
@@ -73,28 +61,29 @@ fn form(name: &str) -> Option<Form> {
     }
 }
 
-fn show(rt: &HostRuntime, read: &Read) -> anyhow::Result<()> {
-    let end = read.end;
-    match read.word {
-        Word::Number { place, value } => println!(rt;
-            "  number {value} at {place}, ends at {end}"
-        )?,
-        Word::Text { place, bytes } => println!(rt; "  text {bytes:?} at {place}, ends at {end}")?,
-        Word::Count { place, count } => println!(rt;
-            "  {count} values behind {place}, from {end} on"
-        )?,
+// A word of a sheet, as it is told.
+#[derive(Clone, Copy)]
+struct Told<'a>(Read<'a>);
+
+impl fmt::Display for Told<'_> {
+    fn fmt<W: fmt::Write>(&self, f: &mut fmt::Formatter<W>) -> fmt::Result {
+        let end = self.0.end;
+        match self.0.word {
+            Word::Number { place, value } => write!(f, "number {value} at {place}, ends at {end}"),
+            Word::Text { place, bytes } => write!(f, "text {bytes:?} at {place}, ends at {end}"),
+            Word::Count { place, count } => {
+                write!(f, "{count} values behind {place}, from {end} on")
+            }
+        }
     }
-    Ok(())
 }
 
 fn answer_word(rt: &HostRuntime, line: &str, name: &str) -> anyhow::Result<()> {
     let bytes = bytes(rt.alloc(), line, 2)?;
-    match form(name) {
+    match form(name).map(|form| sheet::read(bytes.as_slice(), 0, form)) {
         None => println!(rt; "  no such form")?,
-        Some(form) => match sheet::read(bytes.as_slice(), 0, form) {
-            Ok(read) => show(rt, &read)?,
-            Err(refusal) => println!(rt; "  refused: {refusal}")?,
-        },
+        Some(Ok(read)) => println!(rt; "  {}", Told(read))?,
+        Some(Err(refusal)) => println!(rt; "  refused: {refusal}")?,
     }
     Ok(())
 }
@@ -110,67 +99,61 @@ fn answer_text(rt: &HostRuntime, line: &str) -> anyhow::Result<()> {
     Ok(())
 }
 
-fn check<K: Kind>(kind: &K, deep: bool, archive: &[u8], place: usize) -> Result<usize, Refusal> {
-    if deep {
-        is_valid_deep(kind, archive, place)
-    } else {
-        is_valid(kind, archive, place)
-    }
+// How much of a value a check reads: its head, or all that is read from it.
+#[derive(Clone, Copy)]
+enum Depth {
+    Shallow,
+    Deep,
 }
 
-// A value of a named kind in an archive, in a byte order; inline text has the capacity 4.
-fn check_named<E: Endian>(
-    name: &str,
-    deep: bool,
-    archive: &[u8],
+// A check of a value at a place of an archive.
+#[derive(Clone, Copy)]
+struct Check<'a> {
+    depth: Depth,
+    archive: &'a [u8],
     place: usize,
-) -> Result<usize, Refusal> {
-    match name {
-        "N1" => check(
-            &ScalarKind::<Number<Width1>, E>::new(),
-            deep,
-            archive,
-            place,
-        ),
-        "N2" => check(
-            &ScalarKind::<Number<Width2>, E>::new(),
-            deep,
-            archive,
-            place,
-        ),
-        "N4" => check(
-            &ScalarKind::<Number<Width4>, E>::new(),
-            deep,
-            archive,
-            place,
-        ),
-        "N8" => check(
-            &ScalarKind::<Number<Width8>, E>::new(),
-            deep,
-            archive,
-            place,
-        ),
-        "BO" => check(&ScalarKind::<Truth, E>::new(), deep, archive, place),
-        "CH" => check(&ScalarKind::<Character, E>::new(), deep, archive, place),
-        "TX" => check(&ZeroStr::<E>::new(), deep, archive, place),
-        _ => check(&ZeroString::<E>::new(4)?, deep, archive, place),
+}
+
+impl Check<'_> {
+    fn of<K: Kind>(self, kind: &K) -> Result<usize, Refusal> {
+        match self.depth {
+            Depth::Shallow => is_valid(kind, self.archive, self.place),
+            Depth::Deep => is_valid_deep(kind, self.archive, self.place),
+        }
+    }
+
+    // Of a named kind, in a byte order; inline text has the capacity 4.
+    fn of_named<E: Endian>(self, name: &str) -> Result<usize, Refusal> {
+        match name {
+            "N1" => self.of(&ScalarKind::<Number<Width1>, E>::new()),
+            "N2" => self.of(&ScalarKind::<Number<Width2>, E>::new()),
+            "N4" => self.of(&ScalarKind::<Number<Width4>, E>::new()),
+            "N8" => self.of(&ScalarKind::<Number<Width8>, E>::new()),
+            "BO" => self.of(&ScalarKind::<Truth, E>::new()),
+            "CH" => self.of(&ScalarKind::<Character, E>::new()),
+            "TX" => self.of(&ZeroStr::<E>::new()),
+            _ => self.of(&ZeroString::<E>::new(4)?),
+        }
     }
 }
 
-fn answer_check(rt: &HostRuntime, line: &str, deep: bool) -> anyhow::Result<()> {
+fn answer_check(rt: &HostRuntime, line: &str, depth: Depth) -> anyhow::Result<()> {
     let archive = bytes(rt.alloc(), line, 4)?;
     let mut words = line.split_whitespace().skip(1);
     let (Some(name), Some(order), Some(number)) = (words.next(), words.next(), words.next()) else {
         println!(rt; "  a check has a kind, an order, a place and bytes")?;
         return Ok(());
     };
-    let place = number.parse::<usize>()?;
-    let said = if order == "big" {
-        check_named::<BigEndian>(name, deep, archive.as_slice(), place)
-    } else {
-        check_named::<LittleEndian>(name, deep, archive.as_slice(), place)
+    let check = Check {
+        depth,
+        archive: archive.as_slice(),
+        place: number.parse::<usize>()?,
     };
-    match said {
+    let answer = match order {
+        "big" => check.of_named::<BigEndian>(name),
+        _ => check.of_named::<LittleEndian>(name),
+    };
+    match answer {
         Ok(at) => println!(rt; "  stands at {at}")?,
         Err(refusal) => println!(rt; "  refused: {refusal}")?,
     }
@@ -183,52 +166,19 @@ fn answer(rt: &HostRuntime, line: &str) -> anyhow::Result<()> {
     match (words.next(), words.next()) {
         (Some("text"), _) => answer_text(rt, line),
         (Some("word"), Some(name)) => answer_word(rt, line, name),
-        (Some("look"), _) => answer_check(rt, line, false),
-        (Some("deep"), _) => answer_check(rt, line, true),
+        (Some("look"), _) => answer_check(rt, line, Depth::Shallow),
+        (Some("deep"), _) => answer_check(rt, line, Depth::Deep),
         _ => Ok(()),
     }
 }
 
-fn texts_of_one() -> u32 {
-    let mut count = 0u32;
-    for a in 0..=255u8 {
-        if is_text(&[a]) {
-            count = count.saturating_add(1);
-        }
-    }
-    count
-}
-
-fn texts_of_two() -> u32 {
-    let mut count = 0u32;
-    for a in 0..=255u8 {
-        for b in 0..=255u8 {
-            if is_text(&[a, b]) {
-                count = count.saturating_add(1);
-            }
-        }
-    }
-    count
-}
-
-fn texts_of_three_after(a: u8) -> u32 {
-    let mut count = 0u32;
-    for b in 0..=255u8 {
-        for c in 0..=255u8 {
-            if is_text(&[a, b, c]) {
-                count = count.saturating_add(1);
-            }
-        }
-    }
-    count
-}
-
-fn texts_of_three() -> u32 {
-    let mut count = 0u32;
-    for a in 0..=255u8 {
-        count = count.saturating_add(texts_of_three_after(a));
-    }
-    count
+// How many sequences of so many bytes are text.
+fn texts_of(length: usize) -> usize
+    requires { length ≤ 3 }
+{
+    (0..1u32 << (8 * length))
+        .filter(|n| is_text(&n.to_be_bytes()[4 - length..]))
+        .count()
 }
 
 fn run(rt: &HostRuntime) -> anyhow::Result<()> {
@@ -237,9 +187,9 @@ fn run(rt: &HostRuntime) -> anyhow::Result<()> {
     for line in rt.lines(rt.alloc()) {
         answer(rt, line?.as_str())?;
     }
-    println!(rt; "texts of one byte: {}", texts_of_one())?;
-    println!(rt; "texts of two bytes: {}", texts_of_two())?;
-    println!(rt; "texts of three bytes: {}", texts_of_three())?;
+    println!(rt; "texts of one byte: {}", texts_of(1))?;
+    println!(rt; "texts of two bytes: {}", texts_of(2))?;
+    println!(rt; "texts of three bytes: {}", texts_of(3))?;
     Ok(())
 }
 

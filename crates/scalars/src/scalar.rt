@@ -1,5 +1,5 @@
 // What tells scalars apart: their width, their mark, and which numbers are one.
-ghost use Rattle.std.specs.Prelude.{◌≡◌, ℕ, Bool, true, T, List, length};
+ghost use Rattle.std.specs.Prelude.{◌≡◌, ℕ, Bool, true, false, T, List, length};
 ghost use Rattle.format.specs.Sheets.{number_mark, truth_mark, character_mark, any, is_truth, is_character};
 ghost use Rattle.std.proofs.Common.{rules};
 
@@ -12,24 +12,24 @@ pub trait Scalar {
 
     ghost letters: { List ℕ };
 
+    // Whether every number of this width is such a scalar.
+    const ALL_VALID: bool;
+
+    ghost ALL_VALID: { Bool };
+
     ghost passes: { ℕ → Bool };
 
     // The mark in a sheet.
-    fn mark() -> [u8; 2]
-        ensures { result ≡ letters };
+    fn mark() -> &'static [u8; 2]
+        ensures { result.now ≡ letters };
 
     // Whether a number of this width is such a scalar.
     fn valid(n: u64) -> bool
         ensures { result ≡ passes n };
 
-    // Whether it is known that every number of this width is one.
-    fn all_valid() -> bool
-        ensures { T result → (n : ℕ) → passes n ≡ true }
-    {
-        false
-    }
-
     ghost two: { length letters ≡ 2 };
+
+    ghost all: { T ALL_VALID → (n : ℕ) → passes n ≡ true };
 }
 
 // Any number of a width: no sign, no fraction, only bits.
@@ -43,30 +43,28 @@ pub struct Character;
 impl<P: Primitive> Scalar for Number<P> {
     type Width = P;
 
-    ghost letters = { number_mark P.Primitive.width };
+    ghost letters = { number_mark P.Primitive.SIZE };
+
+    const ALL_VALID: bool = true;
+
+    ghost ALL_VALID = { true };
 
     ghost passes = { any };
 
     ghost two = { Prim.search rules };
 
-    fn mark() -> [u8; 2] {
-        let width = P::width();
-        if width == 1 {
-            *marks::N1
-        } else if width == 2 {
-            *marks::N2
-        } else if width == 4 {
-            *marks::N4
-        } else {
-            *marks::N8
+    ghost all = { Prim.search rules };
+
+    fn mark() -> &'static [u8; 2] {
+        match P::SIZE {
+            1 => marks::N1,
+            2 => marks::N2,
+            4 => marks::N4,
+            _ => marks::N8,
         }
     }
 
     fn valid(_n: u64) -> bool {
-        true
-    }
-
-    fn all_valid() -> bool {
         true
     }
 }
@@ -76,12 +74,18 @@ impl Scalar for Truth {
 
     ghost letters = { truth_mark };
 
+    const ALL_VALID: bool = false;
+
+    ghost ALL_VALID = { false };
+
     ghost passes = { is_truth };
 
     ghost two = { Prim.search rules };
 
-    fn mark() -> [u8; 2] {
-        *marks::BO
+    ghost all = { Prim.search rules };
+
+    fn mark() -> &'static [u8; 2] {
+        marks::BO
     }
 
     fn valid(n: u64) -> bool {
@@ -94,15 +98,21 @@ impl Scalar for Character {
 
     ghost letters = { character_mark };
 
+    const ALL_VALID: bool = false;
+
+    ghost ALL_VALID = { false };
+
     ghost passes = { is_character };
 
     ghost two = { Prim.search rules };
 
-    fn mark() -> [u8; 2] {
-        *marks::CH
+    ghost all = { Prim.search rules };
+
+    fn mark() -> &'static [u8; 2] {
+        marks::CH
     }
 
     fn valid(n: u64) -> bool {
-        n < 0xd800 || 0xe000 <= n && n < 0x11_0000
+        matches!(n, 0..=0xd7ff | 0xe000..=0x10_ffff)
     }
 }

@@ -1,4 +1,7 @@
 // A scalar as a kind: a head in the byte order, and no tail.
+ghost use Rattle.std.specs.Prelude.{◌≡◌, ◌+◌};
+ghost use Rattle.std.specs.Bool.{then_some};
+ghost use Rattle.kind.specs.Asked.{Always};
 ghost use Rattle.format.specs.Scalars.{scalar_kind};
 ghost use Rattle.format.proofs.ScalarLaws.{scalar_laws};
 
@@ -27,29 +30,29 @@ impl<S: Scalar, E: Endian> ScalarKind<S, E> {
 }
 
 impl<S: Scalar, E: Endian> Kind for ScalarKind<S, E> {
-    ghost meaning = { λ _. scalar_kind S.Scalar.letters S.Width.Primitive.width S.Scalar.passes E.Endian.order };
+    ghost meaning = { λ _. scalar_kind S.Scalar.letters S.Width.Primitive.SIZE S.Scalar.passes E.Endian.order };
 
-    ghost lawful = { λ k. scalar_laws S.Scalar.letters S.Width.Primitive.width S.Scalar.passes E.Endian.order S.Width.Primitive.sized E.Endian.undoes };
+    ghost lawful = { λ k. scalar_laws S.Scalar.letters S.Width.Primitive.SIZE S.Scalar.passes E.Endian.order S.Width.Primitive.sized E.Endian.undoes };
 
     fn size(&self) -> usize {
-        S::Width::width()
+        S::Width::SIZE
     }
 
     fn align(&self) -> usize {
-        S::Width::width()
+        S::Width::SIZE
     }
 
     fn scan(&self, sheet: &[u8], at: usize) -> Result<usize, Refusal> {
-        let n = sheet::number::<S::Width>(sheet, at, &S::mark())?;
+        let n = sheet::number::<S::Width>(sheet, at, S::mark())?;
         if !S::valid(S::Width::widen(n)) {
             return Err(Refusal::at(Cause::SheetNotScalar, at));
         }
-        Ok(at + 2 + S::Width::width())
+        Ok(at + 2 + S::Width::SIZE)
     }
 
     fn layout(&self, sheet: &[u8], at: &mut usize, tail: usize) -> (usize, usize) {
-        *at = *at + 2 + S::Width::width();
-        (tail, S::Width::width())
+        *at = *at + 2 + S::Width::SIZE;
+        (tail, S::Width::SIZE)
     }
 
     fn fill(
@@ -62,7 +65,7 @@ impl<S: Scalar, E: Endian> Kind for ScalarKind<S, E> {
     ) -> usize {
         let n = S::Width::take_back::<LittleEndian>(sheet, *at + 2);
         S::Width::lay::<E>(n, out, head);
-        *at = *at + 2 + S::Width::width();
+        *at = *at + 2 + S::Width::SIZE;
         tail
     }
 
@@ -76,21 +79,21 @@ impl<S: Scalar, E: Endian> Kind for ScalarKind<S, E> {
 
     fn deep(&self, archive: &[u8], at: usize) -> Result<usize, Refusal> {
         self.shallow(archive, at)?;
-        Ok(2 + S::Width::width())
+        Ok(2 + S::Width::SIZE)
     }
 
-    fn always(&self) -> Option<usize> {
-        if S::all_valid() {
-            Some(2 + S::Width::width())
-        } else {
-            None
-        }
+    // A row of such scalars need not be read just where every number is one.
+    fn always(&self) -> Option<usize>
+        ensures always { Always (scalar_kind S.Scalar.letters S.Width.Primitive.SIZE S.Scalar.passes E.Endian.order) result }
+        ensures exact { result ≡ then_some S.Scalar.ALL_VALID (2 + S.Width.Primitive.SIZE) }
+    {
+        S::ALL_VALID.then_some(2 + S::Width::SIZE)
     }
 
     fn copy(&self, archive: &[u8], at: usize, out: &mut [u8], to: usize) -> usize {
         let n = S::Width::take_back::<E>(archive, at);
-        put_at(out, to, &S::mark());
+        put_at(out, to, S::mark());
         S::Width::lay::<LittleEndian>(n, out, to + 2);
-        to + 2 + S::Width::width()
+        to + 2 + S::Width::SIZE
     }
 }

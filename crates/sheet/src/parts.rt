@@ -5,6 +5,7 @@ ghost use Rattle.format.specs.Sheets.{truth_mark, character_mark, marked as mark
 ghost use Rattle.sheet.specs.Words.{bit};
 
 use crate::marks;
+use buffer::lies_within;
 use endian::order::LittleEndian;
 use endian::width::{Primitive, Width1, Width4};
 use refusal::{Cause, Refusal};
@@ -15,14 +16,13 @@ pub fn marked(sheet: &[u8], at: usize, mark: &[u8; 2], own: usize) -> Result<usi
     ensures told { told result ≡ at_place (marked_by mark.now own) sheet.now at }
     ensures within { IfOk result (λ end. at + (2 + own) ≤ length sheet.now) }
 {
-    let left = sheet.len().saturating_sub(at);
-    if left < 2 {
+    if !lies_within(sheet.len(), at, 2) {
         return Err(Refusal::at(Cause::SheetEnds, at));
     }
-    if sheet[at] != mark[0] || sheet[at + 1] != mark[1] {
+    if sheet[at..at + 2] != mark[..] {
         return Err(Refusal::at(Cause::WrongMark, at));
     }
-    if left - 2 < own {
+    if !lies_within(sheet.len(), at + 2, own) {
         return Err(Refusal::at(Cause::SheetEnds, at));
     }
     Ok(at + 2 + own)
@@ -30,10 +30,10 @@ pub fn marked(sheet: &[u8], at: usize, mark: &[u8; 2], own: usize) -> Result<usi
 
 // The number behind a mark: the lowest byte first, whatever the archive's order.
 pub fn number<P: Primitive>(sheet: &[u8], at: usize, mark: &[u8; 2]) -> Result<P::Number, Refusal>
-    ensures told { told_by P.Primitive.value result ≡ number_read mark.now P.Primitive.width any sheet.now at }
-    ensures within { OnOk result (at + (2 + P.Primitive.width) ≤ length sheet.now) }
+    ensures told { told_by P.Primitive.value result ≡ number_read mark.now P.Primitive.SIZE any sheet.now at }
+    ensures within { OnOk result (at + (2 + P.Primitive.SIZE) ≤ length sheet.now) }
 {
-    marked(sheet, at, mark, P::width())?;
+    marked(sheet, at, mark, P::SIZE)?;
     Ok(P::take_back::<LittleEndian>(sheet, at + 2))
 }
 
@@ -54,10 +54,8 @@ pub fn character(sheet: &[u8], at: usize) -> Result<char, Refusal>
     ensures told { told result ≡ number_read character_mark 4 is_character sheet.now at }
     ensures within { OnOk result (at + 6 ≤ length sheet.now) }
 {
-    match char::from_u32(number::<Width4>(sheet, at, marks::CH)?) {
-        Some(c) => Ok(c),
-        None => Err(Refusal::at(Cause::SheetNotScalar, at)),
-    }
+    let number = number::<Width4>(sheet, at, marks::CH)?;
+    char::from_u32(number).ok_or(Refusal::at(Cause::SheetNotScalar, at))
 }
 
 // The text behind a mark and its length: a part of the sheet itself.
@@ -67,10 +65,9 @@ pub fn text<'a>(sheet: &'a [u8], at: usize, mark: &[u8; 2]) -> Result<&'a [u8], 
 {
     let length = number::<Width4>(sheet, at, mark)? as usize;
     let start = at + 6;
-    if sheet.len() - start < length {
-        return Err(Refusal::at(Cause::SheetEnds, at));
-    }
-    let bytes = &sheet[start..start + length];
+    let bytes = sheet
+        .get(start..start + length)
+        .ok_or(Refusal::at(Cause::SheetEnds, at))?;
     if !is_text(bytes) {
         return Err(Refusal::at(Cause::SheetNotText, at));
     }

@@ -15,12 +15,12 @@ fn number_word<'a, P: Primitive>(
     at: usize,
     mark: &[u8; 2],
 ) -> Result<Read<'a>, Refusal>
-    ensures { told_by read_of result ≡ heard (scan_number mark.now P.Primitive.width any) (λ v. number_word_by at (number_of P.Primitive.width v)) sheet.now at }
+    ensures { told_by read_of result ≡ heard (scan_number mark.now P.Primitive.SIZE any) (λ v. number_word_by at (number_of P.Primitive.SIZE v)) sheet.now at }
 {
     let value = P::widen(number::<P>(sheet, at, mark)?);
     Ok(Read {
         word: Word::Number { place: at, value },
-        end: at + 2 + P::width(),
+        end: at + 2 + P::SIZE,
     })
 }
 

@@ -7,7 +7,7 @@ ghost use Rattle.format.specs.Texts.{cut};
 fn goes_on(byte: u8) -> bool
     ensures { result ≡ among 0x80 0xbf byte }
 {
-    0x80 <= byte && byte <= 0xbf
+    matches!(byte, 0x80..=0xbf)
 }
 
 // How many bytes of a text are left within a capacity.
@@ -19,9 +19,10 @@ pub fn cut_length(bytes: &[u8], capacity: usize) -> usize
     if bytes.len() <= capacity {
         return bytes.len();
     }
-    let mut end = capacity;
-    while end > 0 && goes_on(bytes[end]) {
-        end -= 1;
+    for end in (1..=capacity).rev() {
+        if !goes_on(bytes[end]) {
+            return end;
+        }
     }
-    end
+    0
 }

@@ -5,7 +5,7 @@ ghost use Rattle.format.proofs.TextKindLaws.{text_laws};
 
 use crate::part::text_at;
 use crate::sheet_text::{next_text, put_text, scan_text, sheet_length};
-use buffer::put_at;
+use buffer::{STOP, put_at};
 use distance::lead;
 use endian::order::Endian;
 use endian::width::{Primitive, Width4};
@@ -13,9 +13,6 @@ use kind::{Found, Kind, OneStep};
 use refusal::Refusal;
 use sheet::marks;
 use std::marker::PhantomData;
-
-// Where ends stop: one past the limit.
-const STOP: usize = 2_147_483_648;
 
 #[derive(Drop)]
 pub struct ZeroStr<E: Endian> {

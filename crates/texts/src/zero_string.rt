@@ -1,5 +1,5 @@
 // Inline text as a kind: its head is the length, the bytes and zeros, and it has no tail.
-ghost use Rattle.std.specs.Prelude.{◌≡◌, ◌≤◌};
+ghost use Rattle.std.specs.Prelude.{◌≡◌};
 ghost use Rattle.format.specs.Meaning.{counted};
 ghost use Rattle.format.specs.Texts.{inline_kind};
 ghost use Rattle.format.specs.Archive.{inline_step};
@@ -12,48 +12,42 @@ use crate::sheet_text::{next_text, put_text, scan_text, sheet_length};
 use buffer::{put_at, put_zeros};
 use endian::order::Endian;
 use endian::width::{Primitive, Width4};
-use kind::{Found, Kind, OneStep};
-use refusal::{Cause, Refusal};
+use kind::{Count, Found, Kind, OneStep};
+use refusal::Refusal;
 use sheet::marks;
 use std::marker::PhantomData;
-
-const MOST: usize = 65_535;
 
 #[derive(Drop)]
 pub struct ZeroString<E: Endian> {
     order: PhantomData<E>,
-    capacity: usize,
-    ghost sound: { (1 ≤ capacity) × (capacity ≤ 65535) },
+    capacity: Count,
 }
 
 impl<E: Endian> ZeroString<E> {
     // For texts of at most so many bytes. Longer ones are cut.
     pub fn new(capacity: usize) -> Result<ZeroString<E>, Refusal>
-        ensures { told_by (λ k. k.capacity) result ≡ counted capacity }
+        ensures { told_by (λ k. k.capacity.value) result ≡ counted capacity }
     {
-        if capacity < 1 || MOST < capacity {
-            return Err(Refusal::whole(Cause::BadCount));
-        }
         Ok(ZeroString {
             order: PhantomData,
-            capacity,
+            capacity: Count::new(capacity)?,
         })
     }
 
     pub fn capacity(&self) -> usize
-        ensures { result ≡ self.now.capacity }
+        ensures { result ≡ self.now.capacity.value }
     {
-        self.capacity
+        self.capacity.value() as usize
     }
 }
 
 impl<E: Endian> Kind for ZeroString<E> {
-    ghost meaning = { λ k. inline_kind k.capacity E.Endian.order };
+    ghost meaning = { λ k. inline_kind k.capacity.value E.Endian.order };
 
-    ghost lawful = { λ k. inline_laws k.capacity E.Endian.order E.Endian.undoes k.sound.1 };
+    ghost lawful = { λ k. inline_laws k.capacity.value E.Endian.order E.Endian.undoes k.capacity.sound.1 };
 
     fn size(&self) -> usize {
-        (4 + self.capacity + 3) / 4 * 4
+        (4 + self.capacity()).next_multiple_of(4)
     }
 
     fn align(&self) -> usize {
@@ -78,7 +72,7 @@ impl<E: Endian> Kind for ZeroString<E> {
         tail: usize,
     ) -> usize {
         let bytes = next_text(sheet, at);
-        let kept = cut_length(bytes, self.capacity);
+        let kept = cut_length(bytes, self.capacity());
         Width4::lay::<E>(kept as u32, out, head);
         put_at(out, head + 4, &bytes[0..kept]);
         put_zeros(out, head + 4 + kept, self.size() - (4 + kept));
@@ -86,26 +80,26 @@ impl<E: Endian> Kind for ZeroString<E> {
     }
 
     fn shallow(&self, archive: &[u8], at: usize) -> Result<usize, Refusal> {
-        inline_at::<E>(archive, at, self.capacity)?;
+        inline_at::<E>(archive, at, self.capacity())?;
         Ok(at)
     }
 
     fn deep(&self, archive: &[u8], at: usize) -> Result<usize, Refusal> {
-        let text = inline_at::<E>(archive, at, self.capacity)?;
+        let text = inline_at::<E>(archive, at, self.capacity())?;
         Ok(sheet_length(text.bytes))
     }
 
     fn copy(&self, archive: &[u8], at: usize, out: &mut [u8], to: usize) -> usize {
-        let text = inline_at::<E>(archive, at, self.capacity).unwrap();
+        let text = inline_at::<E>(archive, at, self.capacity()).unwrap();
         put_text(out, to, marks::TI, text.bytes)
     }
 }
 
 impl<E: Endian> OneStep for ZeroString<E> {
-    ghost step = { λ k. inline_step k.capacity E.Endian.order };
+    ghost step = { λ k. inline_step k.capacity.value E.Endian.order };
 
     fn one_step<'a>(&self, archive: &'a [u8], at: usize) -> Result<Found<'a>, Refusal> {
-        let text = inline_at::<E>(archive, at, self.capacity)?;
+        let text = inline_at::<E>(archive, at, self.capacity())?;
         Ok(Found::Text(text))
     }
 }

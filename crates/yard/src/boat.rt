@@ -2,233 +2,216 @@
 use archive::{copy_out, get, is_valid_deep};
 use builder::{Finished, ZeroBuilder};
 use endian::order::{Endian, LittleEndian};
-use kind::Found;
+use kind::{Found, Kind};
 use links::RelativePtr;
 use lists::ZeroSlice;
 use refusal::{Cause, Refusal};
 use std::alloc::{AllocError, Global};
+use std::iter::StepBy;
+use std::ops::Range;
 use texts::ZeroStr;
+use thiserror::Error;
 
 type Text = ZeroStr<LittleEndian>;
 
-type Texts = ZeroSlice<Text, LittleEndian>;
+type Slice<K> = ZeroSlice<K, LittleEndian>;
 
-type Lists = ZeroSlice<Texts, LittleEndian>;
+type Pointer<K> = RelativePtr<Slice<K>, LittleEndian>;
 
-// The size of a text's head, and of a slice's.
-const HEAD: usize = 8;
+// One of the three lists: what it is called, where its pointer stands, and what its items are.
+pub trait Root {
+    type Item: Kind + Drop;
 
-fn texts_kind() -> Texts {
-    ZeroSlice::new(ZeroStr::new())
+    const NAME: &'static str;
+
+    const PLACE: usize;
+
+    fn item() -> Self::Item;
 }
 
-fn lists_kind() -> Lists {
-    ZeroSlice::new(texts_kind())
-}
+pub struct Numbers;
 
-#[derive(Clone, Copy)]
-pub enum Root {
-    Numbers,
-    Casts,
-    Parts,
-}
+pub struct Casts;
 
-impl Root {
-    // Where its pointer stands.
-    pub fn place(self) -> usize {
-        match self {
-            Root::Numbers => 0,
-            Root::Casts => 4,
-            Root::Parts => 8,
-        }
-    }
+pub struct Parts;
 
-    pub fn name(self) -> &'static str {
-        match self {
-            Root::Numbers => "the list of plate numbers",
-            Root::Casts => "the list of casts",
-            Root::Parts => "the list of parts",
-        }
+impl Root for Numbers {
+    type Item = Text;
+
+    const NAME: &'static str = "the list of plate numbers";
+
+    const PLACE: usize = 0;
+
+    fn item() -> Text {
+        Text::new()
     }
 }
 
+impl Root for Casts {
+    type Item = Text;
+
+    const NAME: &'static str = "the list of casts";
+
+    const PLACE: usize = 4;
+
+    fn item() -> Text {
+        Text::new()
+    }
+}
+
+impl Root for Parts {
+    type Item = Slice<Text>;
+
+    const NAME: &'static str = "the list of parts";
+
+    const PLACE: usize = 8;
+
+    fn item() -> Slice<Text> {
+        Slice::new(Text::new())
+    }
+}
+
+fn list_of<R: Root>() -> Slice<R::Item> {
+    Slice::new(R::item())
+}
+
+fn pointer_to<R: Root>() -> Pointer<R::Item> {
+    Pointer::new(list_of::<R>())
+}
+
+// Something of each of the three lists.
 #[derive(Drop)]
-pub struct Sheets {
-    pub numbers: Vec<u8>,
-    pub casts: Vec<u8>,
-    pub parts: Vec<u8>,
+pub struct PerList<T> {
+    pub numbers: T,
+    pub casts: T,
+    pub parts: T,
+}
+
+pub type Sheets = PerList<Vec<u8>>;
+
+impl Sheets {
+    pub fn each(&self) -> [&[u8]; 3] {
+        [
+            self.numbers.as_slice(),
+            self.casts.as_slice(),
+            self.parts.as_slice(),
+        ]
+    }
 }
 
 // Where the lists were built, and what the builder told at its end.
-#[derive(Clone, Copy)]
+#[derive(Drop)]
 pub struct Assembled {
-    pub numbers: usize,
-    pub casts: usize,
-    pub parts: usize,
+    pub places: PerList<usize>,
     pub finished: Finished,
 }
 
-// Lets the pointer at a place lead to a record behind it.
-fn lead(
+// Builds a list behind what stands, and lets its pointer lead there.
+fn build<R: Root>(
     builder: &mut ZeroBuilder,
     buffer: &mut [u8],
-    from: usize,
-    to: usize,
+    sheet: &[u8],
 ) -> Result<usize, Refusal> {
-    let distance = to.saturating_sub(from) & 0x7fff_ffff;
+    let place = builder.build(buffer, &list_of::<R>(), sheet)?;
+    // The mask changes no distance within the limit, and shows that it fits.
+    let distance = place.saturating_sub(R::PLACE) & 0x7fff_ffff;
     builder.write(
         buffer,
-        from,
+        R::PLACE,
         &LittleEndian::from_native_u32(distance as u32),
-    )
+    )?;
+    Ok(place)
 }
 
 // The pointers are reserved first, so that they stand at 0, 4 and 8 whatever the lists hold.
 pub fn assemble(buffer: &mut [u8], sheets: &Sheets) -> Result<Assembled, Refusal> {
     let mut builder = ZeroBuilder::new(buffer)?;
-    let to_numbers = builder.reserve(
-        buffer,
-        &RelativePtr::<Texts, LittleEndian>::new(texts_kind()),
-    )?;
-    let to_casts = builder.reserve(
-        buffer,
-        &RelativePtr::<Texts, LittleEndian>::new(texts_kind()),
-    )?;
-    let to_parts = builder.reserve(
-        buffer,
-        &RelativePtr::<Lists, LittleEndian>::new(lists_kind()),
-    )?;
-    let numbers = builder.build(buffer, &texts_kind(), sheets.numbers.as_slice())?;
-    let casts = builder.build(buffer, &texts_kind(), sheets.casts.as_slice())?;
-    let parts = builder.build(buffer, &lists_kind(), sheets.parts.as_slice())?;
-    lead(&mut builder, buffer, to_numbers, numbers)?;
-    lead(&mut builder, buffer, to_casts, casts)?;
-    lead(&mut builder, buffer, to_parts, parts)?;
+    builder.reserve(buffer, &pointer_to::<Numbers>())?;
+    builder.reserve(buffer, &pointer_to::<Casts>())?;
+    builder.reserve(buffer, &pointer_to::<Parts>())?;
+    let places = PerList {
+        numbers: build::<Numbers>(&mut builder, buffer, sheets.numbers.as_slice())?,
+        casts: build::<Casts>(&mut builder, buffer, sheets.casts.as_slice())?,
+        parts: build::<Parts>(&mut builder, buffer, sheets.parts.as_slice())?,
+    };
     let finished = builder.finish();
-    Ok(Assembled {
-        numbers,
-        casts,
-        parts,
-        finished,
-    })
+    Ok(Assembled { places, finished })
 }
 
 // Reads all of one list, and tells its first fault.
-pub fn check(archive: &[u8], root: Root) -> Result<usize, Refusal> {
-    let place = root.place();
-    match root {
-        Root::Numbers | Root::Casts => {
-            is_valid_deep(
-                &RelativePtr::<Texts, LittleEndian>::new(texts_kind()),
-                archive,
-                place,
-            )
-        }
-        Root::Parts => {
-            is_valid_deep(
-                &RelativePtr::<Lists, LittleEndian>::new(lists_kind()),
-                archive,
-                place,
-            )
-        }
-    }
+pub fn check<R: Root>(archive: &[u8]) -> Result<usize, Refusal> {
+    is_valid_deep(&pointer_to::<R>(), archive, R::PLACE)
 }
 
-fn copy_into(archive: &[u8], root: Root, output: &mut [u8]) -> Result<usize, Refusal> {
-    let place = root.place();
-    match root {
-        Root::Numbers | Root::Casts => {
-            copy_out(
-                &RelativePtr::<Texts, LittleEndian>::new(texts_kind()),
-                archive,
-                place,
-                output,
-            )
-        }
-        Root::Parts => {
-            copy_out(
-                &RelativePtr::<Lists, LittleEndian>::new(lists_kind()),
-                archive,
-                place,
-                output,
-            )
-        }
-    }
-}
-
-#[derive(Drop)]
+#[derive(Debug, Drop, Error)]
 pub enum CopyError {
-    Refused(Refusal),
-    Memory,
-}
-
-impl From<AllocError> for CopyError {
-    fn from(_error: AllocError) -> CopyError {
-        CopyError::Memory
-    }
+    #[error(transparent)]
+    Refused(#[from] Refusal),
+    #[error("out of memory")]
+    Memory(#[from(alloc)] AllocError),
 }
 
 // The sheet of one list. A list that shares bytes can have a longer sheet than its archive, so the output grows until it has room.
-pub fn copy(heap: Global, archive: &[u8], root: Root) -> Result<Vec<u8>, CopyError> {
+pub fn copy<R: Root>(heap: Global, archive: &[u8]) -> Result<Vec<u8>, CopyError> {
     let mut room = archive.len();
     for _ in 0..usize::BITS {
         let mut output = vec![in heap; 0; room]?;
-        match copy_into(archive, root, output.as_mut_slice()) {
-            Ok(length) => {
-                output.truncate(length);
+        match copy_out(&pointer_to::<R>(), archive, R::PLACE, output.as_mut_slice()) {
+            Err(refusal) if refusal.cause == Cause::NoRoom => room = room.saturating_mul(2),
+            copied => {
+                output.truncate(copied?);
                 return Ok(output);
             }
-            Err(refusal) if refusal.cause == Cause::NoRoom => room = room.saturating_mul(2),
-            Err(refusal) => return Err(CopyError::Refused(refusal)),
         }
     }
-    Err(CopyError::Memory)
+    Err(CopyError::Refused(Refusal::whole(Cause::NoRoom)))
 }
 
 // Texts or lists side by side: the place of the first, and how many.
-#[derive(Clone, Copy)]
+#[derive(Clone, Copy, Default)]
 pub struct Items {
-    pub place: usize,
+    place: usize,
     pub count: u32,
 }
 
-fn items_of(found: Found) -> Items {
-    match found {
-        Found::Target { place } => Items { place, count: 1 },
-        Found::Items { place, count } => Items { place, count },
-        Found::Text(part) => Items {
-            place: part.place,
-            count: 0,
-        },
+impl From<Found<'_>> for Items {
+    fn from(found: Found<'_>) -> Items {
+        match found {
+            Found::Target { place } => Items { place, count: 1 },
+            Found::Items { place, count } => Items { place, count },
+            Found::Text(part) => Items {
+                place: part.place,
+                count: 0,
+            },
+        }
     }
 }
 
 impl Items {
-    // The head of one of them.
-    pub fn head(self, index: u32) -> usize {
-        self.place
-            .saturating_add(HEAD.saturating_mul(index as usize))
+    // The heads, one behind another: a text's is as long as a list's.
+    pub fn heads(self) -> StepBy<Range<usize>> {
+        let size = Text::new().size();
+        let end = self
+            .place
+            .saturating_add(size.saturating_mul(self.count as usize));
+        (self.place..end).step_by(size)
     }
 }
 
 // The items of the list behind a root.
-pub fn list(archive: &[u8], root: Root) -> Result<Items, Refusal> {
-    let pointer = RelativePtr::<Texts, LittleEndian>::new(texts_kind());
-    let target = items_of(get(&pointer, archive, root.place())?).place;
-    match root {
-        Root::Numbers | Root::Casts => texts_at(archive, target),
-        Root::Parts => Ok(items_of(get(&lists_kind(), archive, target)?)),
-    }
+pub fn list<R: Root>(archive: &[u8]) -> Result<Items, Refusal> {
+    let target = Items::from(get(&pointer_to::<R>(), archive, R::PLACE)?).place;
+    Ok(get(&list_of::<R>(), archive, target)?.into())
 }
 
 // The texts of the slice at a place.
 pub fn texts_at(archive: &[u8], place: usize) -> Result<Items, Refusal> {
-    Ok(items_of(get(&texts_kind(), archive, place)?))
+    Ok(get(&Slice::new(Text::new()), archive, place)?.into())
 }
 
 // The text at a place, which is the part of the archive itself.
 pub fn text_at(archive: &[u8], place: usize) -> Result<&[u8], Refusal> {
-    match get(&ZeroStr::<LittleEndian>::new(), archive, place)? {
+    match get(&Text::new(), archive, place)? {
         Found::Text(part) => Ok(part.bytes),
         _ => Ok(&[]),
     }

@@ -1,71 +1,68 @@
 // The commands.
-use crate::boat::{Assembled, CopyError, Root, Sheets, assemble, copy as copy_root};
+use crate::boat::{
+    Assembled, Casts, CopyError, Numbers, Parts, PerList, Root, Sheets, assemble,
+    check as check_root, copy as copy_root,
+};
+use crate::failure::failed;
 use crate::files::{give_up, put_in_place, read_file, write_beside};
-use crate::plate_list::{Plates, plates_of, sheets_of};
-use crate::show::{checked_lists, print_lists, refused};
-use anyhow::anyhow;
+use crate::plate_list::{plates_of, sheets_of};
+use crate::show::{Named, checked_lists, print_lists, refused};
+use buffer::LIMIT;
+use builder::Finished;
 use std::io::{Read, Write};
-
-const LIMIT: usize = 2_147_483_647;
 
 // Enough for the lists of such sheets: a head has at most 8 bytes where a sheet has at least 6, and each list at most 3 of padding.
 fn room_for(sheets: &Sheets) -> usize {
     sheets
-        .numbers
-        .len()
-        .saturating_add(sheets.casts.len())
-        .saturating_add(sheets.parts.len())
-        .saturating_mul(2)
-        .saturating_add(64)
+        .each()
+        .iter()
+        .fold(
+            64usize,
+            |room, sheet| room.saturating_add(sheet.len().saturating_mul(2)),
+        )
         .min(LIMIT)
 }
 
 // The archive of three sheets.
 fn archive_of(rt: &HostRuntime, sheets: &Sheets) -> anyhow::Result<(Vec<u8>, Assembled)> {
     let mut buffer = vec![in rt.alloc(); 0; room_for(sheets)]?;
-    match assemble(buffer.as_mut_slice(), sheets) {
-        Ok(assembled) => {
-            buffer.truncate(assembled.finished.length);
-            Ok((buffer, assembled))
-        }
-        Err(refusal) => {
-            eprintln!(rt; "yard: the archive cannot be built: {refusal}")?;
-            Err(anyhow!("nothing was written"))
-        }
-    }
+    let assembled = assemble(buffer.as_mut_slice(), sheets).map_err(|refusal| {
+        failed(
+            rt,
+            format_args!("the archive cannot be built: {refusal}"),
+            "nothing was written",
+        )
+    })?;
+    buffer.truncate(assembled.finished.length);
+    Ok((buffer, assembled))
 }
 
-fn copied(rt: &HostRuntime, name: &str, archive: &[u8], root: Root) -> anyhow::Result<Vec<u8>> {
-    match copy_root(rt.alloc(), archive, root) {
-        Ok(sheet) => Ok(sheet),
-        Err(CopyError::Refused(refusal)) => refused(rt, name, root, refusal),
-        Err(CopyError::Memory) => Err(anyhow!("out of memory")),
-    }
+fn copied<R: Root>(rt: &HostRuntime, archive: Named) -> anyhow::Result<Vec<u8>> {
+    copy_root::<R>(rt.alloc(), archive.bytes).map_err(|error| match error {
+        CopyError::Refused(refusal) => refused::<R>(rt, archive.name, refusal),
+        CopyError::Memory(_) => error.into(),
+    })
 }
 
 // That a list copies out as the sheet that it was built from, behind the mark of its pointer.
-fn compare(
-    rt: &HostRuntime,
-    name: &str,
-    archive: &[u8],
-    root: Root,
-    sheet: &[u8],
-) -> anyhow::Result<()> {
-    let copy = copied(rt, name, archive, root)?;
-    let bytes = copy.as_slice();
-    if bytes.len() < 2 || &bytes[2..] != sheet {
-        let list = root.name();
-        eprintln!(rt; "yard: {name}: {list} is not what was built")?;
-        return Err(anyhow!("the archive is not what was built"));
+fn compare<R: Root>(rt: &HostRuntime, archive: Named, sheet: &[u8]) -> anyhow::Result<()> {
+    let copy = copied::<R>(rt, archive)?;
+    if copy.as_slice().get(2..) != Some(sheet) {
+        let (name, list) = (archive.name, R::NAME);
+        return Err(failed(
+            rt,
+            format_args!("{name}: {list} is not what was built"),
+            "the archive is not what was built",
+        ));
     }
     Ok(())
 }
 
-fn verify(rt: &HostRuntime, name: &str, archive: &[u8], sheets: &Sheets) -> anyhow::Result<()> {
-    let lists = checked_lists(rt, name, archive)?;
-    compare(rt, name, archive, Root::Numbers, sheets.numbers.as_slice())?;
-    compare(rt, name, archive, Root::Casts, sheets.casts.as_slice())?;
-    compare(rt, name, archive, Root::Parts, sheets.parts.as_slice())?;
+fn verify(rt: &HostRuntime, archive: Named, sheets: &Sheets) -> anyhow::Result<()> {
+    let lists = checked_lists(rt, archive)?;
+    compare::<Numbers>(rt, archive, sheets.numbers.as_slice())?;
+    compare::<Casts>(rt, archive, sheets.casts.as_slice())?;
+    compare::<Parts>(rt, archive, sheets.parts.as_slice())?;
     let count = lists.plates();
     println!(rt;
         "read again, checked deeply and copied out: {count} plates, equal to what was built"
@@ -73,15 +70,13 @@ fn verify(rt: &HostRuntime, name: &str, archive: &[u8], sheets: &Sheets) -> anyh
     Ok(())
 }
 
-fn tell_built(rt: &HostRuntime, plates: &Plates, assembled: &Assembled) -> anyhow::Result<()> {
-    let count = plates.numbers.len();
-    let Assembled {
+fn tell_built(rt: &HostRuntime, count: usize, assembled: &Assembled) -> anyhow::Result<()> {
+    let PerList {
         numbers,
         casts,
         parts,
-        finished,
-    } = *assembled;
-    let (length, alignment) = (finished.length, finished.alignment);
+    } = assembled.places;
+    let Finished { length, alignment } = assembled.finished;
     println!(rt;
         "built {count} plates: numbers at {numbers}, casts at {casts}, parts at {parts}; {length} bytes, alignment {alignment}"
     )?;
@@ -91,9 +86,10 @@ fn tell_built(rt: &HostRuntime, plates: &Plates, assembled: &Assembled) -> anyho
 pub fn build(rt: &HostRuntime, list: &str, path: &str) -> anyhow::Result<()> {
     let bytes = read_file(rt, list)?;
     let plates = plates_of(rt, bytes.as_slice())?;
-    let sheets = sheets_of(rt, &plates)?;
+    let count = plates.len();
+    let sheets = sheets_of(rt, plates)?;
     let (archive, assembled) = archive_of(rt, &sheets)?;
-    tell_built(rt, &plates, &assembled)?;
+    tell_built(rt, count, &assembled)?;
     let beside = write_beside(rt, path, archive.as_slice())?;
     if let Err(error) = verify_file(rt, beside.as_str(), &sheets) {
         give_up(rt, beside.as_str());
@@ -106,12 +102,20 @@ pub fn build(rt: &HostRuntime, list: &str, path: &str) -> anyhow::Result<()> {
 
 fn verify_file(rt: &HostRuntime, path: &str, sheets: &Sheets) -> anyhow::Result<()> {
     let bytes = read_file(rt, path)?;
-    verify(rt, path, bytes.as_slice(), sheets)
+    let archive = Named {
+        name: path,
+        bytes: bytes.as_slice(),
+    };
+    verify(rt, archive, sheets)
 }
 
 pub fn check(rt: &HostRuntime, path: &str) -> anyhow::Result<()> {
     let bytes = read_file(rt, path)?;
-    let lists = checked_lists(rt, path, bytes.as_slice())?;
+    let archive = Named {
+        name: path,
+        bytes: bytes.as_slice(),
+    };
+    let lists = checked_lists(rt, archive)?;
     let count = lists.plates();
     let length = bytes.len();
     println!(rt; "{path} is sound: {count} plates in {length} bytes")?;
@@ -120,19 +124,29 @@ pub fn check(rt: &HostRuntime, path: &str) -> anyhow::Result<()> {
 
 pub fn list(rt: &HostRuntime, path: &str) -> anyhow::Result<()> {
     let bytes = read_file(rt, path)?;
-    let lists = checked_lists(rt, path, bytes.as_slice())?;
-    print_lists(rt, bytes.as_slice(), &lists)
+    let archive = Named {
+        name: path,
+        bytes: bytes.as_slice(),
+    };
+    let lists = checked_lists(rt, archive)?;
+    print_lists(rt, archive.bytes, &lists)
 }
 
 // The sheets of the three lists, one behind another, as raw bytes.
 pub fn copy(rt: &HostRuntime, path: &str) -> anyhow::Result<()> {
     let bytes = read_file(rt, path)?;
-    let numbers = copied(rt, path, bytes.as_slice(), Root::Numbers)?;
-    let casts = copied(rt, path, bytes.as_slice(), Root::Casts)?;
-    let parts = copied(rt, path, bytes.as_slice(), Root::Parts)?;
-    rt.stdout().write_all(numbers.as_slice())?;
-    rt.stdout().write_all(casts.as_slice())?;
-    rt.stdout().write_all(parts.as_slice())?;
+    let archive = Named {
+        name: path,
+        bytes: bytes.as_slice(),
+    };
+    let sheets = PerList {
+        numbers: copied::<Numbers>(rt, archive)?,
+        casts: copied::<Casts>(rt, archive)?,
+        parts: copied::<Parts>(rt, archive)?,
+    };
+    for sheet in sheets.each() {
+        rt.stdout().write_all(sheet)?;
+    }
     Ok(())
 }
 
@@ -141,12 +155,17 @@ pub fn round(rt: &HostRuntime) -> anyhow::Result<()> {
     let mut bytes = Vec::new(rt.alloc());
     rt.stdin().read_to_end(&mut bytes)?;
     let plates = plates_of(rt, bytes.as_slice())?;
-    let sheets = sheets_of(rt, &plates)?;
+    let count = plates.len();
+    let sheets = sheets_of(rt, plates)?;
     let (mut archive, assembled) = archive_of(rt, &sheets)?;
-    tell_built(rt, &plates, &assembled)?;
-    verify(rt, "the archive", archive.as_slice(), &sheets)?;
-    let lists = checked_lists(rt, "the archive", archive.as_slice())?;
-    print_lists(rt, archive.as_slice(), &lists)?;
+    tell_built(rt, count, &assembled)?;
+    let built = Named {
+        name: "the archive",
+        bytes: archive.as_slice(),
+    };
+    verify(rt, built, &sheets)?;
+    let lists = checked_lists(rt, built)?;
+    print_lists(rt, built.bytes, &lists)?;
     damage(rt, archive.as_mut_slice())
 }
 
@@ -156,7 +175,7 @@ fn damage(rt: &HostRuntime, archive: &mut [u8]) -> anyhow::Result<()> {
     if let Some(byte) = archive.get_mut(place) {
         *byte ^= 0xff;
     }
-    match crate::boat::check(archive, Root::Parts) {
+    match check_root::<Parts>(archive) {
         Ok(_) => println!(rt; "with byte {place} damaged the list of parts is still a list")?,
         Err(refusal) => println!(rt; "with byte {place} damaged: the list of parts: {refusal}")?,
     }

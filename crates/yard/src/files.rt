@@ -1,11 +1,10 @@
 // Files: read in blocks, and written whole or not at all.
-use anyhow::anyhow;
+use crate::failure::failed;
+use anyhow::Error;
+use buffer::LIMIT;
 use std::fs;
 use std::fs::File;
 use std::io::{Read, Write};
-
-// The most bytes that an archive may have; a list that long is refused too.
-const LIMIT: usize = 2_147_483_647;
 
 const BLOCK: usize = 65_536;
 
@@ -14,11 +13,14 @@ const MIB: usize = 1_048_576;
 // Reading more than this is told as it goes on.
 const LARGE: usize = 16 * MIB;
 
-fn too_long<T>(rt: &HostRuntime, path: &str) -> anyhow::Result<T> {
-    eprintln!(rt;
-        "yard: {path} is longer than 2,147,483,647 bytes, the most that an archive may have (refusal 1, place 0, depth 0)"
-    )?;
-    Err(anyhow!("the file is too long"))
+fn too_long(rt: &HostRuntime, path: &str) -> Error {
+    failed(
+        rt,
+        format_args!(
+            "{path} is longer than 2,147,483,647 bytes, the most that an archive may have (refusal 1, place 0, depth 0)"
+        ),
+        "the file is too long",
+    )
 }
 
 // Told once for each 16 MiB.
@@ -40,13 +42,14 @@ fn read_block(file: &mut File, bytes: &mut Vec<u8>) -> anyhow::Result<usize> {
 
 fn read_blocks(rt: &HostRuntime, path: &str, file: &mut File) -> anyhow::Result<Vec<u8>> {
     let mut bytes = Vec::new(rt.alloc());
+    // A loop needs an end: no file has so many blocks.
     for _ in 0..u64::MAX {
         let before = bytes.len();
         if read_block(file, &mut bytes)? == 0 {
             break;
         }
         if bytes.len() > LIMIT {
-            return too_long(rt, path);
+            return Err(too_long(rt, path));
         }
         tell_progress(rt, path, before, bytes.len())?;
     }
@@ -55,15 +58,12 @@ fn read_blocks(rt: &HostRuntime, path: &str, file: &mut File) -> anyhow::Result<
 
 // A file that says that it is over the limit is not read at all, and one that says nothing only so far.
 pub fn read_file(rt: &HostRuntime, path: &str) -> anyhow::Result<Vec<u8>> {
-    let mut file = match File::open(rt, path) {
-        Ok(file) => file,
-        Err(error) => {
-            eprintln!(rt; "yard: cannot open {path}")?;
-            return Err(error.into());
-        }
-    };
+    let mut file = File::open(rt, path).or_else(|error| {
+        eprintln!(rt; "yard: cannot open {path}")?;
+        Err(error)
+    })?;
     if file.metadata()?.len() > LIMIT as u64 {
-        return too_long(rt, path);
+        return Err(too_long(rt, path));
     }
     read_blocks(rt, path, &mut file)
 }

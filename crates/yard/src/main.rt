@@ -3,6 +3,7 @@
 
 mod boat;
 mod commands;
+mod failure;
 mod files;
 mod plate_list;
 mod show;

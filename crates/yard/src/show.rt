@@ -1,22 +1,12 @@
 // What an archive holds, printed.
-use crate::boat::{Items, Root, check, list, text_at, texts_at};
-use anyhow::anyhow;
+use crate::boat::{Casts, Items, Numbers, Parts, PerList, Root, check, list, text_at, texts_at};
+use crate::failure::failed;
+use anyhow::Error;
 use refusal::Refusal;
 use std::str::from_utf8;
 
-pub fn refused<T>(rt: &HostRuntime, name: &str, root: Root, refusal: Refusal) -> anyhow::Result<T> {
-    let list = root.name();
-    eprintln!(rt; "yard: {name} is refused: {list}: {refusal}")?;
-    Err(anyhow!("the archive is refused"))
-}
-
 // The three lists of an archive, as many items each.
-#[derive(Clone, Copy)]
-pub struct Lists {
-    numbers: Items,
-    casts: Items,
-    parts: Items,
-}
+pub type Lists = PerList<Items>;
 
 impl Lists {
     pub fn plates(&self) -> u32 {
@@ -24,33 +14,47 @@ impl Lists {
     }
 }
 
-fn checked(rt: &HostRuntime, name: &str, archive: &[u8], root: Root) -> anyhow::Result<Items> {
-    if let Err(refusal) = check(archive, root) {
-        return refused(rt, name, root, refusal);
-    }
-    match list(archive, root) {
-        Ok(items) => Ok(items),
-        Err(refusal) => refused(rt, name, root, refusal),
-    }
+// The bytes of an archive, and the name that it goes by in what is said of it.
+#[derive(Clone, Copy)]
+pub struct Named<'a> {
+    pub name: &'a str,
+    pub bytes: &'a [u8],
+}
+
+pub fn refused<R: Root>(rt: &HostRuntime, name: &str, refusal: Refusal) -> Error {
+    let list = R::NAME;
+    failed(
+        rt,
+        format_args!("{name} is refused: {list}: {refusal}"),
+        "the archive is refused",
+    )
+}
+
+fn checked<R: Root>(rt: &HostRuntime, archive: Named) -> anyhow::Result<Items> {
+    check::<R>(archive.bytes)
+        .and_then(|_| list::<R>(archive.bytes))
+        .map_err(|refusal| refused::<R>(rt, archive.name, refusal))
 }
 
 // Checks all of an archive: each list by itself, and that they are of the same plates.
-pub fn checked_lists(rt: &HostRuntime, name: &str, archive: &[u8]) -> anyhow::Result<Lists> {
-    let numbers = checked(rt, name, archive, Root::Numbers)?;
-    let casts = checked(rt, name, archive, Root::Casts)?;
-    let parts = checked(rt, name, archive, Root::Parts)?;
-    if casts.count != numbers.count || parts.count != numbers.count {
-        let (n, c, p) = (numbers.count, casts.count, parts.count);
-        eprintln!(rt;
-            "yard: {name} is refused: it has {n} plate numbers, {c} casts and {p} lists of parts, which should be as many"
-        )?;
-        return Err(anyhow!("the archive is refused"));
+pub fn checked_lists(rt: &HostRuntime, archive: Named) -> anyhow::Result<Lists> {
+    let lists = PerList {
+        numbers: checked::<Numbers>(rt, archive)?,
+        casts: checked::<Casts>(rt, archive)?,
+        parts: checked::<Parts>(rt, archive)?,
+    };
+    let name = archive.name;
+    let (n, c, p) = (lists.numbers.count, lists.casts.count, lists.parts.count);
+    if c != n || p != n {
+        return Err(failed(
+            rt,
+            format_args!(
+                "{name} is refused: it has {n} plate numbers, {c} casts and {p} lists of parts, which should be as many"
+            ),
+            "the archive is refused",
+        ));
     }
-    Ok(Lists {
-        numbers,
-        casts,
-        parts,
-    })
+    Ok(lists)
 }
 
 // A text of a checked archive.
@@ -62,26 +66,26 @@ fn print_text(rt: &HostRuntime, archive: &[u8], place: usize) -> anyhow::Result<
 }
 
 fn print_parts(rt: &HostRuntime, archive: &[u8], place: usize) -> anyhow::Result<()> {
-    let nothing = Items { place, count: 0 };
-    let parts = texts_at(archive, place).unwrap_or(nothing);
+    let parts = texts_at(archive, place).unwrap_or_default();
     if parts.count == 0 {
         print!(rt; "  nothing cut yet")?;
     }
-    for index in 0..parts.count {
+    for (index, head) in parts.heads().enumerate() {
         print!(rt; "{}", if index == 0 { "  cut: " } else { ", " })?;
-        print_text(rt, archive, parts.head(index))?;
+        print_text(rt, archive, head)?;
     }
     Ok(())
 }
 
 // A line a plate.
 pub fn print_lists(rt: &HostRuntime, archive: &[u8], lists: &Lists) -> anyhow::Result<()> {
-    for index in 0..lists.numbers.count {
+    let texts = lists.numbers.heads().zip(lists.casts.heads());
+    for (index, ((number, cast), parts)) in texts.zip(lists.parts.heads()).enumerate() {
         print!(rt; "{index:>5}  ")?;
-        print_text(rt, archive, lists.numbers.head(index))?;
+        print_text(rt, archive, number)?;
         print!(rt; "  cast ")?;
-        print_text(rt, archive, lists.casts.head(index))?;
-        print_parts(rt, archive, lists.parts.head(index))?;
+        print_text(rt, archive, cast)?;
+        print_parts(rt, archive, parts)?;
         println!(rt; "")?;
     }
     Ok(())

@@ -1,4 +1,3 @@
-use Rattle.std.proofs.Common.{rules}
 use Rattle.format.proofs.RoundLaws.{up-least}
 use Rattle.buffer.proofs.rounded.Goals as goal
 

@@ -1,4 +1,4 @@
-use Rattle.std.proofs.Common.{◌≡◌, ℕ, ◌+◌, List, sym, ap, ◌∙◌, subst, arith}
+use Rattle.std.proofs.Common.{◌≡◌, ℕ, ◌+◌, List, sym, ap, ◌∙◌, subst}
 use Rattle.format.specs.Answers.{good}
 use Rattle.format.specs.Orders.{number}
 use Rattle.format.specs.Places.{part}
@@ -13,11 +13,5 @@ behind-mark mark s p w k e n kw h v =
     let there : at_place (marked mark w) s p ≡ good e = sym (subst (λ z. good e ≡ at_place (marked mark z) s p) kw h) in
     ap good v ∙ sym (number_read-any mark w s p ∙ both-good (at_place (marked mark w) s p) e (λ _. good (number (part (p + 2) w s))) there)
 
-pub take_back-requires : goal.take_back-requires
-take_back-requires g c = omega (arith, c.in_ok-marked.ensures.within, c.width.ensures)
-
-pub returns : goal.returns
-returns g c = record {
-  told = behind-mark c.args.mark.now c.args.sheet.now c.args.at g.P.Primitive.width c.width.result c.in_ok-marked.field-0 (g.P.Primitive.value c.take_back.result) c.width.ensures c.in_ok-marked.ensures.told c.take_back.ensures.value;
-  within = omega (arith, c.in_ok-marked.ensures.within, c.width.ensures);
-}
+pub returns-clause-told : goal.returns-clause-told
+returns-clause-told g c = behind-mark c.args.mark.now c.args.sheet.now c.args.at g.P.Primitive.SIZE c.SIZE.result c.in_ok-marked.field-0 (g.P.Primitive.value c.take_back.result) c.SIZE.ensures c.in_ok-marked.ensures.told c.take_back.ensures.value

@@ -1,4 +1,4 @@
-use Rattle.std.proofs.Common.{length, sym, ◌∙◌, arith}
+use Rattle.std.proofs.Common.{rules, length, sym, ◌∙◌, arith}
 use Rattle.std.proofs.lemmas.List.{take_all}
 use Rattle.format.proofs.CutLaws.{cut_fits}
 use Rattle.texts.proofs.Cuts.{cut_on, cut-here, cut_at}
@@ -13,11 +13,11 @@ returns-then-bytes-capacity c =
 pub loop-end-preserved : goal.loop-end-preserved
 loop-end-preserved c =
     let inside = c.loop-end.invariant.0 in
-    (omega arith, cut_on c.args.bytes.now c.loop-end.end c.loop-end-test.true inside (sym c.if-goes_on.ensures) ∙ c.loop-end.invariant.1)
+    (omega arith, cut_on c.args.bytes.now c.loop-end.end (search rules) inside (search rules) ∙ c.loop-end.invariant.1)
 
-pub returns-else-goes_on : goal.returns-else-goes_on
-returns-else-goes_on c =
+pub returns-then-not-goes_on : goal.returns-then-not-goes_on
+returns-then-not-goes_on c =
     let bs = c.args.bytes.now in
     let inside = c.loop-end.invariant.0 in
-    let r = cut_at bs c.args.capacity c.loop-end.end (omega arith) (cut-here bs c.loop-end.end inside (sym c.if-goes_on.ensures) ∙ c.loop-end.invariant.1) in
+    let r = cut_at bs c.args.capacity c.loop-end.end (search rules) (cut-here bs c.loop-end.end inside (search rules) ∙ c.loop-end.invariant.1) in
     record { long = r.long; front = r.front; within = r.within }

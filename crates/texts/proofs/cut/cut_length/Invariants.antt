@@ -4,6 +4,3 @@ use Rattle.texts.proofs.cut.cut_length.Given as goal
 
 abbrev pub invariant-loop-end : goal.invariant-loop-end
 invariant-loop-end l = (l.end < length l.bytes) × (cut l.end l.bytes ≡ cut l.capacity l.bytes)
-
-abbrev pub decreases-loop-end : goal.decreases-loop-end
-decreases-loop-end l = l.end

@@ -1,19 +1,19 @@
-use Rattle.std.proofs.Common.{ap, ◌∙◌, arith}
+use Rattle.std.proofs.Common.{refl, ap, ◌∙◌, arith}
 use Rattle.kind.specs.Asked.{filled}
 use Rattle.lists.proofs.ArrayCalls.{array-room, array-next, array_fillable, array-laid}
 use Rattle.lists.proofs.array.ArrayKind.fill.Goals as goal
 
 pub overflow_add-at : goal.overflow_add-at
-overflow_add-at g c = let r = array-room c.args.self.now.count (g.K.Kind.meaning c.args.self.now.item) c.args.sheet.now c.args.at.now c.requires.next c.requires.found in omega arith
+overflow_add-at g c = let r = array-room c.args.self.now.count.value (g.K.Kind.meaning c.args.self.now.item) _ refl c.args.sheet.now c.args.at.now c.requires.next c.requires.found in omega arith
 
-pub fill_row-requires : goal.fill_row-requires
-fill_row-requires g c = array_fillable c.args.self.now.count (g.K.Kind.meaning c.args.self.now.item) c.args.sheet.now c.args.at.now c.args.out.now c.args.head c.args.tail c.requires
+pub fill-requires : goal.fill-requires
+fill-requires g c = array_fillable c.args.self.now.count.value (g.K.Kind.meaning c.args.self.now.item) _ c.row.ensures c.args.sheet.now c.args.at.now c.args.out.now c.args.head c.args.tail c.requires
 
 pub returns : goal.returns
 returns g c =
-    let laid = array-laid c.args.self.now.count (g.K.Kind.meaning c.args.self.now.item) c.args.sheet.now c.args.at.now c.requires.next c.args.head c.args.tail c.requires.found in
+    let laid = array-laid c.args.self.now.count.value (g.K.Kind.meaning c.args.self.now.item) _ c.row.ensures c.args.sheet.now c.args.at.now c.requires.next c.args.head c.args.tail c.requires.found in
     record {
-      bytes = c.fill_row.ensures.bytes ∙ ap (filled c.args.out.now c.args.head c.args.tail) laid;
-      end = c.fill_row.ensures.end ∙ ap (λ x. x.end) laid;
-      next = array-next c.args.self.now.count (g.K.Kind.meaning c.args.self.now.item) c.args.sheet.now c.args.at.now c.requires.next c.fill_row.new.at c.requires.found c.fill_row.ensures.next;
+      bytes = c.fill.ensures.bytes ∙ ap (filled c.args.out.now c.args.head c.args.tail) laid;
+      end = c.fill.ensures.end ∙ ap (λ x. x.end) laid;
+      next = array-next c.args.self.now.count.value (g.K.Kind.meaning c.args.self.now.item) _ c.row.ensures c.args.sheet.now c.args.at.now c.requires.next c.fill.new.at c.requires.found c.fill.ensures.next;
     }

@@ -1,15 +1,15 @@
-use Rattle.std.proofs.Common.{arith}
+use Rattle.std.proofs.Common.{refl, arith}
 use Rattle.lists.proofs.ArrayCalls.{array-room, array-next, array_askable, array_foretold}
 use Rattle.lists.proofs.array.ArrayKind.layout.Goals as goal
 
 pub overflow_add-at : goal.overflow_add-at
-overflow_add-at g c = let r = array-room c.args.self.now.count (g.K.Kind.meaning c.args.self.now.item) c.args.sheet.now c.args.at.now c.requires.next c.requires.found in omega arith
+overflow_add-at g c = let r = array-room c.args.self.now.count.value (g.K.Kind.meaning c.args.self.now.item) _ refl c.args.sheet.now c.args.at.now c.requires.next c.requires.found in omega arith
 
-pub layout_row-requires : goal.layout_row-requires
-layout_row-requires g c = array_askable c.args.self.now.count (g.K.Kind.meaning c.args.self.now.item) c.args.sheet.now c.args.at.now c.args.tail c.requires
+pub layout-requires : goal.layout-requires
+layout-requires g c = array_askable c.args.self.now.count.value (g.K.Kind.meaning c.args.self.now.item) _ c.row.ensures c.args.sheet.now c.args.at.now c.args.tail c.requires
 
 pub returns : goal.returns
 returns g c = record {
-  foretold = array_foretold c.args.self.now.count (g.K.Kind.meaning c.args.self.now.item) c.args.sheet.now c.args.at.now c.requires.next c.args.tail c.layout_row.result.0 c.layout_row.result.1 c.requires.found c.layout_row.ensures.foretold;
-  next = array-next c.args.self.now.count (g.K.Kind.meaning c.args.self.now.item) c.args.sheet.now c.args.at.now c.requires.next c.layout_row.new.at c.requires.found c.layout_row.ensures.next;
+  foretold = array_foretold c.args.self.now.count.value (g.K.Kind.meaning c.args.self.now.item) _ c.row.ensures c.args.sheet.now c.args.at.now c.requires.next c.args.tail c.layout.result.0 c.layout.result.1 c.requires.found c.layout.ensures.foretold;
+  next = array-next c.args.self.now.count.value (g.K.Kind.meaning c.args.self.now.item) _ c.row.ensures c.args.sheet.now c.args.at.now c.requires.next c.layout.new.at c.requires.found c.layout.ensures.next;
 }

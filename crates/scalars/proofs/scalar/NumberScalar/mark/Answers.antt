@@ -1,4 +1,4 @@
-use Rattle.std.proofs.Common.{◌≡◌, ℕ, sym, ap, ◌∙◌, ⊎_elim}
+use Rattle.std.proofs.Common.{◌≡◌, ℕ, sym, ap, ◌∙◌, ⊎_elim, arith}
 use Rattle.format.specs.Orders.{Width}
 use Rattle.format.specs.Sheets.{number_mark}
 use Rattle.format.proofs.OrderLaws.{width_cases}
@@ -9,5 +9,5 @@ eight : (w v : ℕ) → Width w → v ≡ w → (v ≡ 1 → ⊥) → (v ≡ 2 �
 eight w v k e a b d =
     ⊎_elim (λ x. absurd (a (e ∙ x))) (⊎_elim (λ x. absurd (b (e ∙ x))) (⊎_elim (λ x. absurd (d (e ∙ x))) (λ x. ap number_mark (sym x)))) (width_cases w k)
 
-pub returns-else-width-eq4 : goal.returns-else-width-eq4
-returns-else-width-eq4 g c = eight g.P.Primitive.width c.width-width.result g.met.P.Primitive.sized c.width-width.ensures c.if-width-eq1.false c.if-width-eq2.false c.if-width-eq4.false
+pub returns-in_default : goal.returns-in_default
+returns-in_default g c = eight g.P.Primitive.SIZE c.SIZE.result g.met.P.Primitive.sized c.SIZE.ensures (λ e. omega arith) (λ e. omega arith) (λ e. omega arith)

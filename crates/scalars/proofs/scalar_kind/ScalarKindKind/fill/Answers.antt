@@ -11,22 +11,22 @@ head_alone : (o : Order) (w n m : ℕ) (out new : List ℕ) (h t : ℕ) → n �
 head_alone o w n m out new h t e f = f ∙ (ap (λ z. put out h (o.lay w z)) e ∙ sym (put_nil (put out h (o.lay w m)) t))
 
 pub overflow_add-at : goal.overflow_add-at
-overflow_add-at g c = let f = found g.S.Scalar.letters g.S.Width.Primitive.width g.S.Scalar.passes c.args.sheet.now c.args.at.now c.requires.next c.requires.found in omega arith
+overflow_add-at g c = let f = found g.S.Scalar.letters g.S.Width.Primitive.SIZE g.S.Scalar.passes c.args.sheet.now c.args.at.now c.requires.next c.requires.found in omega arith
 
 pub take_back-n-requires : goal.take_back-n-requires
-take_back-n-requires g c = let f = found g.S.Scalar.letters g.S.Width.Primitive.width g.S.Scalar.passes c.args.sheet.now c.args.at.now c.requires.next c.requires.found in omega arith
+take_back-n-requires g c = let f = found g.S.Scalar.letters g.S.Width.Primitive.SIZE g.S.Scalar.passes c.args.sheet.now c.args.at.now c.requires.next c.requires.found in omega arith
 
 pub overflow_add-at-2 : goal.overflow_add-at-2
-overflow_add-at-2 g c = let f = found g.S.Scalar.letters g.S.Width.Primitive.width g.S.Scalar.passes c.args.sheet.now c.args.at.now c.requires.next c.requires.found in omega arith
+overflow_add-at-2 g c = let f = found g.S.Scalar.letters g.S.Width.Primitive.SIZE g.S.Scalar.passes c.args.sheet.now c.args.at.now c.requires.next c.requires.found in omega arith
 
 pub overflow_add-at-3 : goal.overflow_add-at-3
-overflow_add-at-3 g c = let f = found g.S.Scalar.letters g.S.Width.Primitive.width g.S.Scalar.passes c.args.sheet.now c.args.at.now c.requires.next c.requires.found in omega arith
+overflow_add-at-3 g c = let f = found g.S.Scalar.letters g.S.Width.Primitive.SIZE g.S.Scalar.passes c.args.sheet.now c.args.at.now c.requires.next c.requires.found in omega arith
 
 pub returns : goal.returns
 returns g c =
-    let f = found g.S.Scalar.letters g.S.Width.Primitive.width g.S.Scalar.passes c.args.sheet.now c.args.at.now c.requires.next c.requires.found in
+    let f = found g.S.Scalar.letters g.S.Width.Primitive.SIZE g.S.Scalar.passes c.args.sheet.now c.args.at.now c.requires.next c.requires.found in
     record {
-      bytes = head_alone g.E.Endian.order g.S.Width.Primitive.width (g.S.Width.Primitive.value c.take_back-n.result) _ c.args.out.now c.lay.new.out c.args.head c.args.tail (c.take_back-n.ensures.value ∙ sym f.value) c.lay.ensures.bytes;
+      bytes = head_alone g.E.Endian.order g.S.Width.Primitive.SIZE (g.S.Width.Primitive.value c.take_back-n.result) _ c.args.out.now c.lay.new.out c.args.head c.args.tail (c.take_back-n.ensures.value ∙ sym f.value) c.lay.ensures.bytes;
       end = refl;
-      next = c.requires.found ∙ ap good (let n = f.next in let w = c.width.ensures in let z : c.requires.next ≡ c.args.at.now + 2 + c.width.result = omega arith in z);
+      next = c.requires.found ∙ ap good (let n = f.next in let w = c.SIZE.ensures in let z : c.requires.next ≡ c.args.at.now + 2 + c.SIZE.result = omega arith in z);
     }

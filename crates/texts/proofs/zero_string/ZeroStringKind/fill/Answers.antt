@@ -25,8 +25,10 @@ pub returns : goal.returns
 returns g c =
     let f = c.next_text-bytes.ensures.found inline_mark c.requires.next c.requires.found in
     let k = c.cut_length-kept.result in
+    let bs = c.next_text-bytes.result.now in
+    let same = c.capacity.ensures in
     record {
-      bytes = filled g.E.Endian.order g.met.E.Endian.undoes c.args.out.now c.lay.new.out c.put_at.new.out c.put_zeros.new.out c.next_text-bytes.result.now _ c.args.head c.args.tail k c.args.self.now.capacity f.text c.cut_length-kept.ensures.long c.cut_length-kept.ensures.front c.lay.ensures.small (omega arith) (omega arith) c.lay.ensures.bytes c.put_at.ensures (c.put_zeros.ensures ∙ ap (λ z. put c.put_at.new.out (c.args.head + 4 + k) (zeros (z - (4 + k)))) c.size.ensures);
+      bytes = filled g.E.Endian.order g.met.E.Endian.undoes c.args.out.now c.lay.new.out c.put_at.new.out c.put_zeros.new.out bs _ c.args.head c.args.tail k c.args.self.now.capacity.value f.text (c.cut_length-kept.ensures.long ∙ ap (λ z. length (cut z bs)) same) (c.cut_length-kept.ensures.front ∙ ap (λ z. cut z bs) same) c.lay.ensures.small (omega arith) (omega arith) c.lay.ensures.bytes c.put_at.ensures (c.put_zeros.ensures ∙ ap (λ z. put c.put_at.new.out (c.args.head + 4 + k) (zeros (z - (4 + k)))) c.size.ensures);
       end = refl;
       next = f.next;
     }

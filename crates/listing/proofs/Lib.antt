@@ -1,7 +1,0 @@
-pub mod LineLaws
-pub mod CutLaws
-pub mod WrittenLaws
-pub mod ToldLaws
-pub mod ReadLaws
-pub mod BackLaws
-pub mod KindLaws
