@@ -14,8 +14,8 @@ use buffer::{lies_within, put_zeros, rounded};
 use refusal::{Cause, Refusal};
 
 impl ZeroBuilder {
-    // That a buffer is as long as at the start. What needs it asks it by a clause, since a struct that held builder and buffer would owe
-    // at each of them a clause on which builder and which buffer it holds.
+    // That a buffer is as long as at the start. `grow`, `append` and `commit` ask it by a clause: of a struct that lends builder and buffer
+    // each of them would owe two clauses more, on the references that it still holds.
     pub(crate) fn own(&self, length: usize) -> Result<usize, Refusal>
         ensures told { told result ≡ unless (length == self.now.room) (fault 2 0) (good length) }
         ensures same { OnOk result (length ≡ self.now.room) }
