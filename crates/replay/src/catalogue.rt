@@ -48,6 +48,7 @@ impl Hold for Alone {
     }
 }
 
+// Each holder is a type and an impl of its own: one for all would take an associated type with parameters, which Rattle lacks.
 pub struct Pointed<H: Hold>(PhantomData<H>);
 
 impl<H: Hold> Hold for Pointed<H> {
