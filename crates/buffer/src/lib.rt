@@ -17,7 +17,7 @@ pub fn lies_within(length: usize, place: usize, count: usize) -> bool
     count <= length && place <= length - count
 }
 
-// Puts bytes over those at a place.
+// Puts bytes over those at a place. Not into a part `&mut out[at..]` that a caller makes: the contracts speak of the whole buffer.
 pub fn put_at(out: &mut [u8], at: usize, bytes: &[u8])
     requires { at + length bytes.now ≤ length out.old }
     ensures { out.new ≡ put out.old at bytes.now }
@@ -33,7 +33,8 @@ pub fn put_zeros(out: &mut [u8], at: usize, count: usize)
     out[at..at + count].fill(0);
 }
 
-// The next place of an alignment, from a place on.
+// The next place of an alignment, from a place on. The alignment is a number and no type with these bounds, since it is one in what a kind
+// answers: the type would be made and taken apart at each call.
 pub fn rounded(place: usize, align: usize) -> usize
     requires { (place ≤ 2147483648) × ((0 < align) × (align ≤ 4096)) }
     ensures { result ≡ up place align }

@@ -13,6 +13,7 @@ use endian::order::Endian;
 use endian::width::{Primitive, Width4};
 use refusal::{Cause, Refusal};
 
+// That an archive is within the limit stays a clause: a type for it would take one of the three facts that `Seated` gives and leave two.
 // Where the distance at a place leads. Below the archive's first byte is outside.
 pub fn target<E: Endian>(archive: &[u8], at: usize) -> Result<usize, Refusal>
     requires { (at + 4 ≤ length archive.now) × (length archive.now ≤ limit) }

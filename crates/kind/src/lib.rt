@@ -17,6 +17,9 @@ mod found;
 pub use count::Count;
 pub use found::{Found, OneStep, Part};
 
+// A sheet or an archive and a place in it stay two parameters, here and in the crates above: each call goes on with the same bytes at
+// another place, so a struct of the two would be made anew at each. What callers show of them, as `Seated`, speaks of a kind's meaning
+// too; a type for it would hold all three, and would have to be made by each kind for each value that it holds.
 pub trait Kind {
     // size and alignment, sheets, layout and readings
     ghost meaning: { Self → Meaning };

@@ -1,6 +1,7 @@
 // The sheet reader: words of a sheet, one at a time, each with its place.
 #![tactic(auto)]
 
+// The sheet and the place in it stay two parameters: a reader that moved would have to say of each step that its sheet is the same one.
 pub mod marks;
 mod parts;
 mod reader;
