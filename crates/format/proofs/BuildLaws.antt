@@ -1,13 +1,13 @@
 -- Laws that the code of a builder rests on: what its tests come to, and what is left when parts are put one behind another. Assumes nothing.
 use Rattle.std.proofs.Common.{◌≡◌, ℕ, zero, suc, ◌+◌, ◌-◌, ◌^◌, ◌<◌, ◌≤◌, max, Bool, true, false, ◌&&◌, leb, List, ◌++◌, length, drop, sym, refl, ap, ◌∙◌, subst, ⊎_elim, zero-add, arith}
 use Rattle.std.proofs.lemmas.List.{length-replicate, take_all}
-use Rattle.std.proofs.lemmas.Bool.{le-leb, leb-true, eq-eqb, and_parts, cases_lt}
+use Rattle.std.proofs.lemmas.Bool.{le-leb, leb-true, and_parts, cases_lt}
 use Rattle.format.specs.Places.{limit, stop, up, zeros, put, Alignment, Bytes}
 use Rattle.format.specs.Answers.{Answer, Fault, good, bad, fault, unless, both, shifted}
 use Rattle.format.specs.Sheets.{at_place, ended}
 use Rattle.format.specs.Items.{first_of}
 use Rattle.format.specs.Meaning.{Meaning, Laid, Placed, Laws}
-use Rattle.format.specs.Builder.{Builder, Call, build, Change, allowed, whole, appended, change, done, step}
+use Rattle.format.specs.Builder.{Builder, build, Change, allowed, whole, appended, change, done}
 use Rattle.format.proofs.ByteLists.{length-put}
 use Rattle.format.proofs.AnswerLaws.{unless-true, unless_parts, both-good, both-both_unused, both_parts, good-same}
 use Rattle.format.proofs.PutLaws.{put-put}
@@ -28,27 +28,12 @@ below_at f (suc n) k h l =
 pub alignment-allowed : (a : ℕ) → Alignment a → allowed a ≡ true
 alignment-allowed a (k, (h, e)) = subst (λ z. allowed z ≡ true) (sym e) (below_at (λ i. allowed (2 ^ i)) 13 k refl (omega arith))
 
--- a call that is handed its own buffer
-pub own-step : (c : Call) (b : Builder) (buf : List ℕ) (y : Answer Change) → length buf ≡ b.room → change b c ≡ y → step c b buf ≡ done b buf y
-own-step c b buf y e h = ap (done b buf) (unless-true _ _ _ (eq-eqb (length buf) b.room e) ∙ h)
-
--- what comes behind a test that gave a number
-pub asked_then : (t : Bool) (e : Fault) (n a : ℕ) (f : ℕ → Answer Change) → unless t (bad e) (good n) ≡ good a → unless t (bad e) (f n) ≡ f a
-asked_then t e n a f h = let r = unless_parts t _ (good n) a h in unless-true t _ (f n) r.0 ∙ ap f (good-same n a r.1)
-
 -- one part behind zeros, in two steps
 pub put-behind : (buf : List ℕ) (u p : ℕ) (xs : List ℕ) → u ≤ length buf → u ≤ p → put (put buf u (zeros (p - u))) p xs ≡ put buf u (zeros (p - u) ++ xs)
 put-behind buf u p xs h l = let n : length (zeros (p - u)) ≡ p - u = length-replicate (p - u) 0 in put-put buf u (zeros (p - u)) xs p h (omega arith)
 
 module _ (b : Builder) (buf : List ℕ) (a : ℕ) (xs : List ℕ) (n : ℕ) (long : length xs ≡ n) where
-  -- n bytes have no room
-  pub appended-bad : (f : Fault) → unless (leb (up b.used a + n) b.room) (fault 4 0) (good (up b.used a)) ≡ bad f → done b buf (appended b a xs) ≡ record { answer = bad f; builder = b; buffer = buf }
-  appended-bad f h = go (leb (up b.used a + length xs) b.room) _ (ap (λ z. unless (leb (up b.used a + z) b.room) (fault 4 0) (good (up b.used a))) long ∙ h) where
-    go : (t : Bool) (x : Change) → unless t (fault 4 0) (good (up b.used a)) ≡ bad f → done b buf (unless t (fault 4 0) (good x)) ≡ record { answer = bad f; builder = b; buffer = buf }
-    go true x k = let z : ◌≡◌ {A = ℕ} 0 1 = cc in absurd (omega arith)
-    go false x k = let z : record { number = 4; place = 0; depth = 0 } ≡ f = cc in ap (λ e. record { answer = bad e; builder = b; buffer = buf }) z
-
-  -- they have room at p, and are put there behind zeros
+  -- n bytes have room at p, and are put there behind zeros
   pub appended-good :
       (p w : ℕ) (mid out : List ℕ) → unless (leb (up b.used a + n) b.room) (fault 4 0) (good (up b.used a)) ≡ good p → b.used ≤ p → b.used ≤ length buf →
       w ≡ max b.align a → mid ≡ put buf b.used (zeros (p - b.used)) → out ≡ put mid p xs →

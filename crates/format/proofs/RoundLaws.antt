@@ -24,12 +24,12 @@ up-least q a x h l u m =
     let e' : k * a ≡ x = omega (arith, e, m) in
     let f = up_ge q a h in
     ⊎_elim
-        (λ (lt : k < d). let g : suc k * a ≤ d * a = mul-le-mul_right a lt in let s : suc k * a ≡ k * a + a = suc-mul k a in absurd (omega (arith, f, g, s, e', l, u)))
-        (λ (ge : d ≤ k). ⊎_elim
-            (λ (lt : d < k). let g : suc d * a ≤ k * a = mul-le-mul_right a lt in let s : suc d * a ≡ d * a + a = suc-mul d a in absurd (omega (arith, f, g, s, e', l, u)))
-            (λ (le : k ≤ d). sym e' ∙ ap (λ z. z * a) (omega arith))
-            (cases_lt d k))
-        (cases_lt k d)
+    (λ (lt : k < d). let g : suc k * a ≤ d * a = mul-le-mul_right a lt in let s : suc k * a ≡ k * a + a = suc-mul k a in absurd (omega (arith, f, g, s, e', l, u)))
+    (λ (ge : d ≤ k). ⊎_elim
+    (λ (lt : d < k). let g : suc d * a ≤ k * a = mul-le-mul_right a lt in let s : suc d * a ≡ d * a + a = suc-mul d a in absurd (omega (arith, f, g, s, e', l, u)))
+    (λ (le : k ≤ d). sym e' ∙ ap (λ z. z * a) (omega arith))
+    (cases_lt d k))
+    (cases_lt k d)
 
 pub alignment_pos : (a : ℕ) → Alignment a → 1 ≤ a
 alignment_pos a (k, (h, e)) = subst (λ z. 1 ≤ z) (sym e) (pow_pos k)
