@@ -14,10 +14,3 @@ pub loop-end-preserved : goal.loop-end-preserved
 loop-end-preserved c =
     let inside = c.loop-end.invariant.0 in
     (omega arith, cut_on c.args.bytes.now c.loop-end.end (search rules) inside (search rules) ∙ c.loop-end.invariant.1)
-
-pub returns-then-not-goes_on : goal.returns-then-not-goes_on
-returns-then-not-goes_on c =
-    let bs = c.args.bytes.now in
-    let inside = c.loop-end.invariant.0 in
-    let r = cut_at bs c.args.capacity c.loop-end.end (search rules) (cut-here bs c.loop-end.end inside (search rules) ∙ c.loop-end.invariant.1) in
-    record { long = r.long; front = r.front; within = r.within }

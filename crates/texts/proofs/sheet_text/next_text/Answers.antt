@@ -3,18 +3,6 @@ use Rattle.std.proofs.lemmas.List.{length-take}
 use Rattle.texts.proofs.Facts.{stands-within, length-behind, found}
 use Rattle.texts.proofs.sheet_text.next_text.Goals as goal
 
-pub overflow_add-start : goal.overflow_add-start
-overflow_add-start c = omega (arith, stands-within c.args.sheet.now c.args.at.now c.requires)
-
-pub overflow_add-at : goal.overflow_add-at
-overflow_add-at c = omega (arith, stands-within c.args.sheet.now c.args.at.now c.requires)
-
-pub take_back-length-requires : goal.take_back-length-requires
-take_back-length-requires c = omega (arith, stands-within c.args.sheet.now c.args.at.now c.requires)
-
-pub overflow_add-at-2 : goal.overflow_add-at-2
-overflow_add-at-2 c = omega (arith, (length-behind c.args.sheet.now c.args.at.now c.take_back-length.result c.requires c.take_back-length.ensures.value).1)
-
 pub slice_bounds-result-end : goal.slice_bounds-result-end
 slice_bounds-result-end c = omega (arith, (length-behind c.args.sheet.now c.args.at.now c.take_back-length.result c.requires c.take_back-length.ensures.value).1)
 

@@ -23,12 +23,6 @@ recognised bs r e =
     let told = Decides-at r (is_text bs) e (text_decided bs) in
     record { value = e; grammar = told; scalars = Decides-like r (text_utf8 bs) (utf8_text bs) told }
 
-pub loop-byte-init : goal.loop-byte-init
-loop-byte-init c = ap (λ z. run z c.args.bytes.now) c.new-recogniser.ensures
-
-pub loop-byte-preserved : goal.loop-byte-preserved
-loop-byte-preserved c = sym (fed (stands c.loop-byte.recogniser.position) (stands c.feed.new.self.position) c.args.bytes.now c.loop-byte.byte-index c.loop-byte-test.true c.if-not-feed.ensures.moved) ∙ c.loop-byte.invariant
-
 pub returns-then-not-feed : goal.returns-then-not-feed
 returns-then-not-feed c =
     let bs = c.args.bytes.now in
