@@ -1,7 +1,7 @@
 use Rattle.std.proofs.Common.{rules, length, sym, ◌∙◌, arith}
 use Rattle.std.proofs.lemmas.List.{take_all}
 use Rattle.format.proofs.CutLaws.{cut_fits}
-use Rattle.texts.proofs.Cuts.{cut_on, cut-here, cut_at}
+use Rattle.texts.proofs.Cuts.{cut_on, cut_at}
 use Rattle.texts.proofs.cut.cut_length.Goals as goal
 
 pub returns-then-bytes-capacity : goal.returns-then-bytes-capacity

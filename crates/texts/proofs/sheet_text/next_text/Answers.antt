@@ -1,6 +1,6 @@
 use Rattle.std.proofs.Common.{arith}
 use Rattle.std.proofs.lemmas.List.{length-take}
-use Rattle.texts.proofs.Facts.{stands-within, length-behind, found}
+use Rattle.texts.proofs.Facts.{length-behind, found}
 use Rattle.texts.proofs.sheet_text.next_text.Goals as goal
 
 pub slice_bounds-result-end : goal.slice_bounds-result-end
