@@ -40,10 +40,8 @@ PATTERNS = [
     (1, 'call by its name as a string', r'^ +"(?:new|align|reserve|reserve_bytes|write|push|push_bytes|build|finish|short|scan|shallow|deep|get|copy)"(?: \||.* =>)|== "(?:new|finish|short|big)"'),
     # 3: loops by hand
     (3, 'while', r'\bwhile\b'),
-    (3, 'count by hand', r'\b\w+ = \w+\.saturating_add\(1\)|\b\w+ \+= 1\b'),
-    (3, 'place or sum carried by hand in a loop', r'\b(?:place|at|total|bytes_in_all|end) (?:\+= |= (?:at|total|bytes_in_all|text)\b)'),
-    (3, 'index into what is gone over', r'\bfor \w+ in 0\.\.\w[\w.]*(?:count|len\(\))'),
-    (3, 'index kept beside a loop', r'\.enumerate\(\)'),
+    (3, 'index named in a loop', r'\bfor [a-z]\w* in \(?\d+\.\.'),
+    (3, 'index kept beside what is gone over', r'\.enumerate\(\)'),
     # 4: equality, order, copying, conversion, printing
     (4, 'impl of From by hand', r'^impl(?:<[^>]*>)? From<'),
     (4, 'impl of Display by hand', r'^impl(?:<[^>]*>)? fmt::Display'),
@@ -59,7 +57,7 @@ PATTERNS = [
     # 7: switches on which step to run
     (7, 'switch on a flag', r'\bif deep\b'),
     (7, 'one switch, written twice', r'Root::Numbers \| Root::Casts =>'),
-    (7, 'table of names', r'\bfn (?:named|is_by_name|by_name|others_by_name|texts_by_name|leaf|held_twice|held|three_deep)<?'),
+    (7, 'table of names', r'\bfn (?:named|is_by_name|by_name|others_by_name|texts_by_name|held_twice|three_deep)\b'),
 ]
 
 TYPES = [
@@ -140,6 +138,21 @@ def facts():
                 tell(5, 'fact in several contracts: ' + fact, path, line, '')
 
 
+def loops():
+    """Places, counts and sums that the body of a loop carries on by hand."""
+    for path, text in sources():
+        lines = [line.split('//')[0] for line in text.split('\n')]
+        for start, line in enumerate(lines):
+            m = re.match(r'( *)(?:for|while) .*\{$', line)
+            if not m:
+                continue
+            for number in range(start + 1, len(lines)):
+                if lines[number].startswith(m.group(1) + '}'):
+                    break
+                if re.search(r'\b(\w+) (?:\+= |-= |= \1\.(?:saturating|checked)_add|= \1 \+)|^ *(?:at|start|place) = \w+', lines[number]):
+                    tell(3, 'place, count or sum carried on by hand in a loop', path, number + 1, lines[number])
+
+
 def answers():
     for path in sorted(glob.glob('crates/*/proofs/**/Answers.antt', recursive=True)):
         for number, line in enumerate(open(path), 1):
@@ -155,6 +168,7 @@ def main():
             for m in re.finditer(pattern, bare, re.M):
                 tell(point, what, path, bare.count('\n', 0, m.start()) + 1, m.group(0))
     twins()
+    loops()
     facts()
     answers()
     counts = collections.Counter()

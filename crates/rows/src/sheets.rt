@@ -9,6 +9,7 @@ use crate::Row;
 use kind::Kind;
 use refusal::Refusal;
 
+// Each loop goes on from where the last item ended, which only that item tells.
 impl<K: Kind> Row<'_, K> {
     // Where the last item ends, or the first fault.
     pub fn scan(&self, sheet: &[u8], at: usize) -> Result<usize, Refusal>
