@@ -1,5 +1,5 @@
 -- Lists of bytes that are joined, cut, turned round and put over others. Assumes nothing.
-use Rattle.std.proofs.Common.{◌≡◌, ℕ, zero, suc, ◌+◌, ◌≤◌, List, [], ◌∷◌, ◌++◌, reverse, length, take, drop, sym, ap, ◌∙◌, ap₂, append_assoc, arith, lit<}
+use Rattle.std.proofs.Common.{◌≡◌, ℕ, zero, suc, ◌+◌, ◌≤◌, List, [], ◌∷◌, ◌++◌, reverse, length, take, drop, get_or, sym, ap, ◌∙◌, ap₂, append_assoc, arith, lit<, w8, Fits}
 use mathlib.Core.List.{reverse-cons}
 use Rattle.std.proofs.lemmas.List.{length-append, length-take, length-take-le, length-drop, take_at, drop_at, take-take, drop-take, take-append-drop}
 use Rattle.format.specs.Places.{Bytes, part, put, zeros}
@@ -50,3 +50,8 @@ take_sum_append i j v t = ap (λ z. z ++ t) (take_sum i j v) ∙ append_assoc (t
 pub bytes-zeros : (n : ℕ) → Bytes (zeros n)
 bytes-zeros zero = tt
 bytes-zeros (suc n) = (lit< tt, bytes-zeros n)
+
+-- what a slice of bytes holds
+pub typed_bytes : (bs : List ℕ) → ((i : ℕ) → Fits w8 (get_or bs i 0)) → Bytes bs
+typed_bytes [] f = tt
+typed_bytes (b ∷ bs) f = ((f 0).fits, typed_bytes bs (λ i. f (suc i)))

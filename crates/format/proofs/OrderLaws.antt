@@ -1,5 +1,5 @@
 -- The two byte orders keep the law of byte orders: proved of the lowest first at every width, and carried over by turning round. Assumes nothing.
-use Rattle.std.proofs.Common.{◌≡◌, ℕ, zero, suc, ◌+◌, ◌*◌, ◌/◌, ◌%◌, ◌^◌, ◌<◌, ◌≤◌, ◌⊎◌, List, [], ◌∷◌, reverse, length, get_or, refl, ap, ◌∙◌, ap₂, inl, inr, pow-suc, arith, lit<, lit≤, pow_pos, pow_mono, w8, Fits}
+use Rattle.std.proofs.Common.{◌≡◌, ℕ, zero, suc, ◌+◌, ◌*◌, ◌/◌, ◌%◌, ◌^◌, ◌<◌, ◌≤◌, ◌⊎◌, List, [], ◌∷◌, reverse, length, refl, ap, ◌∙◌, ap₂, inl, inr, pow-suc, arith, lit<, lit≤, pow_pos, pow_mono}
 use native.Mathlib.Nat.{mod-add-div}
 use Rattle.std.proofs.lemmas.List.{length-reverse, reverse-reverse}
 use Rattle.std.proofs.lemmas.Nat.{div_below, mod_below}
@@ -31,11 +31,6 @@ low_first-number (b ∷ bs) a =
     let first : (b + 256 * number bs) % 256 ≡ b = omega arith in
     let rest : (b + 256 * number bs) / 256 ≡ number bs = omega arith in
     ap₂ ◌∷◌ first (ap (low_first (length bs)) rest ∙ low_first-number bs a.1)
-
--- what a slice of bytes holds
-pub typed_bytes : (bs : List ℕ) → ((i : ℕ) → Fits w8 (get_or bs i 0)) → Bytes bs
-typed_bytes [] f = tt
-typed_bytes (b ∷ bs) f = ((f 0).fits, typed_bytes bs (λ i. f (suc i)))
 
 pub little_undoes : Undoes little
 little_undoes = record {

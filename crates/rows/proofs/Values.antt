@@ -1,5 +1,5 @@
 -- The values of a row, one after another, by their places in a sheet. Assumes nothing.
-use Rattle.std.proofs.Common.{◌≡◌, ℕ, suc, ◌+◌, List, [], ◌∷◌, ◌++◌, get_or, take, drop, sym, refl, ap, ◌∙◌, subst, ap₂, append-nil, arith, w8, Fits}
+use Rattle.std.proofs.Common.{◌≡◌, ℕ, suc, ◌+◌, List, [], ◌++◌, take, drop, sym, refl, ap, ◌∙◌, subst, ap₂, append-nil, arith}
 use Rattle.std.proofs.lemmas.List.{length-take-le, take_at, drop_at, drop-drop}
 use Rattle.format.specs.Places.{Bytes}
 use Rattle.format.specs.Answers.{Answer, Fault, good, bad, both, shifted}
@@ -80,8 +80,3 @@ lay-more m k s n p e q h t all here there =
     ap (λ z. rest_of z (one ++ others)) scanned ∙ (drop_at one others own long ∙ sym (ap (λ z. first_of z (drop e s)) y.1.0 ∙ ap (take rest) front)) in
     ap (λ z. lay_items m (suc n) z h t) whole ∙
     ap₂ (λ a b. beside (m.lay a h t) (lay_items m n b (h + m.size) (m.lay a h t).end)) first last
-
--- what a slice of bytes holds
-pub typed_bytes : (xs : List ℕ) → ((i : ℕ) → Fits w8 (get_or xs i 0)) → Bytes xs
-typed_bytes [] f = tt
-typed_bytes (x ∷ xs) f = ((f 0).fits, typed_bytes xs (λ i. f (suc i)))

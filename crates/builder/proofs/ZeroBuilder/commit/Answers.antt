@@ -1,6 +1,6 @@
 use Rattle.std.proofs.Common.{ap, ◌∙◌}
 use Rattle.format.specs.Answers.{good}
-use Rattle.rows.proofs.Values.{typed_bytes}
+use Rattle.format.proofs.ByteLists.{typed_bytes}
 use Rattle.builder.specs.Model.{model, planned}
 use Rattle.builder.proofs.Facts.{sound}
 use Rattle.builder.proofs.Commits.{growable, fillable, committed}

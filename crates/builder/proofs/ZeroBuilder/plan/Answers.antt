@@ -3,7 +3,8 @@ use Rattle.std.proofs.lemmas.Result.{err_from_is_err_and}
 use Rattle.format.specs.Places.{stop, up}
 use Rattle.format.specs.Answers.{good, fault, unless}
 use Rattle.format.proofs.BuildLaws.{build_full, build-fits}
-use Rattle.rows.proofs.Values.{typed_bytes, value-belongs}
+use Rattle.format.proofs.ByteLists.{typed_bytes}
+use Rattle.rows.proofs.Values.{value-belongs}
 use Rattle.builder.specs.Alignments.{Power}
 use Rattle.builder.specs.Model.{model}
 use Rattle.builder.proofs.Facts.{power}

@@ -1,6 +1,6 @@
 use Rattle.std.proofs.Common.{◌+◌, sym, ap, ◌∙◌}
 use native.Mathlib.Nat.{sub-zero}
-use Rattle.rows.proofs.Values.{typed_bytes}
+use Rattle.format.proofs.ByteLists.{typed_bytes}
 use Rattle.rows.proofs.ReadLeft.{head-none, head-more, left_suc, left_zero}
 use Rattle.rows.proofs.LayLeft.{fill_left, fill_from, fill_none, fill_item, fill_more, fill_all}
 use Rattle.rows.proofs.Row.fill.Goals as goal

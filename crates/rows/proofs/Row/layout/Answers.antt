@@ -1,6 +1,6 @@
 use Rattle.std.proofs.Common.{sym}
 use native.Mathlib.Nat.{sub-zero}
-use Rattle.rows.proofs.Values.{typed_bytes}
+use Rattle.format.proofs.ByteLists.{typed_bytes}
 use Rattle.rows.proofs.ReadLeft.{left_suc, left_zero}
 use Rattle.rows.proofs.LayLeft.{layout_left, layout_none, layout_item, layout_more, layout_all}
 use Rattle.rows.proofs.Row.layout.Goals as goal

@@ -3,7 +3,8 @@ use Rattle.std.proofs.lemmas.List.{reverse-reverse}
 use Rattle.format.specs.Places.{Bytes}
 use Rattle.format.specs.Orders.{big, number}
 use Rattle.format.proofs.ByteLists.{bytes-reverse}
-use Rattle.format.proofs.OrderLaws.{typed_bytes, low_first-number}
+use Rattle.format.proofs.ByteLists.{typed_bytes}
+use Rattle.format.proofs.OrderLaws.{low_first-number}
 use Rattle.endian.proofs.order.BigEndianEndian.arrange.Goals as goal
 
 turned : (bs new : List ℕ) → new ≡ reverse bs → Bytes new → new ≡ big.lay (length bs) (number bs)

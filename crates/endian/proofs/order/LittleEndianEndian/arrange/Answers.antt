@@ -1,5 +1,6 @@
 use Rattle.std.proofs.Common.{sym}
-use Rattle.format.proofs.OrderLaws.{typed_bytes, low_first-number}
+use Rattle.format.proofs.ByteLists.{typed_bytes}
+use Rattle.format.proofs.OrderLaws.{low_first-number}
 use Rattle.endian.proofs.order.LittleEndianEndian.arrange.Goals as goal
 
 pub returns : goal.returns

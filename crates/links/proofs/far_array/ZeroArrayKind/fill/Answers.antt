@@ -4,7 +4,7 @@ use Rattle.format.specs.Sheets.{far_array_mark}
 use Rattle.format.specs.Items.{row}
 use Rattle.format.proofs.RowLaws.{row_keeps}
 use Rattle.kind.specs.Asked.{filled}
-use Rattle.rows.proofs.Values.{typed_bytes}
+use Rattle.format.proofs.ByteLists.{typed_bytes}
 use Rattle.links.proofs.LinkCalls.{link-room, link-next, link_reach, link-within, link_fillable, link-filled, link-found, link-told, link_filling, link-same}
 use Rattle.links.proofs.far_array.ZeroArrayKind.fill.Goals as goal
 

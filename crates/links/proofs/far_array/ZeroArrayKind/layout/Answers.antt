@@ -4,7 +4,7 @@ use Rattle.format.specs.Items.{row}
 use Rattle.format.proofs.RowLaws.{row_keeps}
 use Rattle.format.specs.Links.{far_array}
 use Rattle.kind.specs.Asked.{Foretold}
-use Rattle.rows.proofs.Values.{typed_bytes}
+use Rattle.format.proofs.ByteLists.{typed_bytes}
 use Rattle.holding.proofs.FarAsked.{far-tail_asks, far-tail_is}
 use Rattle.links.proofs.LinkCalls.{link-room, link-next, link_askable, link_foretold, link-found, link-told, link_asked, link_foreseen}
 use Rattle.links.proofs.far_array.ZeroArrayKind.layout.Goals as goal

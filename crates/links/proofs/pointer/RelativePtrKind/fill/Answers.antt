@@ -1,7 +1,7 @@
 use Rattle.std.proofs.Common.{◌-◌, sym, ap, ◌∙◌, arith}
 use Rattle.format.specs.Places.{up, put, zeros}
 use Rattle.format.specs.Sheets.{pointer_mark}
-use Rattle.rows.proofs.Values.{typed_bytes}
+use Rattle.format.proofs.ByteLists.{typed_bytes}
 use Rattle.links.proofs.LinkCalls.{link-room, link-next, link_reach, link-within, link_fillable, link-filled}
 use Rattle.links.proofs.pointer.RelativePtrKind.fill.Goals as goal
 

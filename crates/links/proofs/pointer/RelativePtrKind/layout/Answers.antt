@@ -2,7 +2,7 @@ use Rattle.std.proofs.Common.{sym, subst, arith}
 use Rattle.format.specs.Sheets.{pointer_mark}
 use Rattle.format.specs.Links.{pointer}
 use Rattle.kind.specs.Asked.{Foretold}
-use Rattle.rows.proofs.Values.{typed_bytes}
+use Rattle.format.proofs.ByteLists.{typed_bytes}
 use Rattle.holding.proofs.FarAsked.{far-tail_asks, far-tail_is}
 use Rattle.links.proofs.LinkCalls.{link-room, link-next, link_askable, link_foretold}
 use Rattle.links.proofs.pointer.RelativePtrKind.layout.Goals as goal

@@ -1,6 +1,6 @@
 use Rattle.std.proofs.Common.{◌+◌, ◌-◌, sym, ap, ◌∙◌, arith}
 use Rattle.format.specs.Places.{up, put, zeros}
-use Rattle.rows.proofs.Values.{typed_bytes}
+use Rattle.format.proofs.ByteLists.{typed_bytes}
 use Rattle.lists.proofs.SliceCalls.{slice-room, slice-next, slice-reach, slice-within, slice-fillable, slice-filled}
 use Rattle.lists.proofs.slice.ZeroSliceKind.fill.Goals as goal
 

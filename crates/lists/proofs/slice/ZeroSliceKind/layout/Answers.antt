@@ -3,7 +3,7 @@ use Rattle.format.specs.Items.{row}
 use Rattle.format.specs.Links.{slice}
 use Rattle.format.proofs.RowLaws.{row_keeps}
 use Rattle.kind.specs.Asked.{Foretold}
-use Rattle.rows.proofs.Values.{typed_bytes}
+use Rattle.format.proofs.ByteLists.{typed_bytes}
 use Rattle.holding.proofs.FarAsked.{far-tail_asks, far-tail_is}
 use Rattle.lists.proofs.SliceCalls.{slice-room, slice-next, slice-askable, slice-foretold}
 use Rattle.lists.proofs.slice.ZeroSliceKind.layout.Goals as goal
