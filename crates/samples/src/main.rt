@@ -43,6 +43,7 @@ fn bytes(heap: Global, line: &str, skip: usize) -> Result<Vec<u8>, AllocError> {
         .collect(heap)
 }
 
+// A function, since a TryFrom would need one of the two types to be this crate's.
 fn form(name: &str) -> Option<Form> {
     match name {
         "N1" => Some(Form::Number1),
