@@ -1,15 +1,12 @@
 use Rattle.std.proofs.Common.{sym, ap, ◌∙◌}
 use Rattle.format.specs.Answers.{good}
 use Rattle.std.proofs.lemmas.Result.{err_from_is_err_and}
-use Rattle.rows.proofs.ReadLeft.{head-seated, deep_none, deep_more, deep-bad, deep_all, deep_always}
+use Rattle.rows.proofs.ReadLeft.{head-seated, deep_more, deep-bad, deep_all, deep_always}
 use Rattle.rows.proofs.Row.deep.Goals as goal
 
 pub returns-in-Some : goal.returns-in-Some
 returns-in-Some g c =
     ap good c.saturating_mul.ensures ∙ sym (deep_always (g.K.Kind.meaning c.args.self.now.item.now) c.in-Some.length c.in-Some.ensures c.args.self.now.count c.args.archive.now c.args.at)
-
-pub loop-index-init : goal.loop-index-init
-loop-index-init g c = deep_none (g.K.Kind.meaning c.args.self.now.item.now) c.args.self.now.count c.args.archive.now c.args.at
 
 pub deep-requires : goal.deep-requires
 deep-requires g c =

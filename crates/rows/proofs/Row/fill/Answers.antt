@@ -1,8 +1,8 @@
 use Rattle.std.proofs.Common.{◌+◌, sym, ap, ◌∙◌}
 use native.Mathlib.Nat.{sub-zero}
 use Rattle.format.proofs.ByteLists.{typed_bytes}
-use Rattle.rows.proofs.ReadLeft.{head-none, head-more, left_suc, left_zero}
-use Rattle.rows.proofs.LayLeft.{fill_left, fill_from, fill_none, fill_item, fill_more, fill_all}
+use Rattle.rows.proofs.ReadLeft.{head-none, head-more, left_suc}
+use Rattle.rows.proofs.LayLeft.{fill_left, fill_from, fill_none, fill_item, fill_more}
 use Rattle.rows.proofs.Row.fill.Goals as goal
 
 pub loop-index-init : goal.loop-index-init
@@ -23,8 +23,3 @@ loop-index-preserved g c =
     (g.met.K.Kind.lawful c.args.self.now.item.now) (typed_bytes c.args.sheet.now c.type_inv.sheet)
     c.fill-end.new.at c.fill-end.new.out c.fill-end.result _ c.fill-end.ensures.next c.fill-end.ensures.bytes c.fill-end.ensures.end
     (head-more m c.args.head c.loop-index.index ∙ ap (λ z. z + m.size) (sym c.place-place.ensures)) c.fill-end.auto.out
-
-pub returns : goal.returns
-returns g c =
-    let r = fill_all (fill_left (left_zero c.args.self.now.count c.loop-index.index c.loop-index-test.false) c.loop-index.invariant) in
-    record { bytes = r.0; end = r.1; next = r.2 }

@@ -1,13 +1,7 @@
 use Rattle.std.proofs.Common.{sym}
 use Rattle.std.proofs.lemmas.Result.{err_from_is_err_and}
-use Rattle.rows.proofs.ScanLeft.{scan-none, scan_left_more, scan_left_bad, scan_all}
+use Rattle.rows.proofs.ScanLeft.{scan_left_more, scan_left_bad, scan_all}
 use Rattle.rows.proofs.Row.scan.Goals as goal
-
-pub loop-init : goal.loop-init
-loop-init g c = scan-none (g.K.Kind.meaning c.args.self.now.item.now) c.args.self.now.count c.args.sheet.now c.args.at c.requires
-
-pub scan-requires : goal.scan-requires
-scan-requires g c = c.loop.invariant.within
 
 pub returns-in_err-end : goal.returns-in_err-end
 returns-in_err-end g c =

@@ -1,10 +1,7 @@
 use Rattle.std.proofs.Common.{sym}
 use Rattle.std.proofs.lemmas.Result.{err_from_is_err_and}
-use Rattle.rows.proofs.ReadLeft.{head-seated, shallow-none, shallow-more, shallow-bad, shallow_all}
+use Rattle.rows.proofs.ReadLeft.{head-seated, shallow-more, shallow-bad, shallow_all}
 use Rattle.rows.proofs.Row.shallow.Goals as goal
-
-pub loop-index-init : goal.loop-index-init
-loop-index-init g c = shallow-none (g.K.Kind.meaning c.args.self.now.item.now) c.args.self.now.count c.args.archive.now c.args.at
 
 pub shallow-requires : goal.shallow-requires
 shallow-requires g c =

@@ -4,13 +4,6 @@ use Rattle.format.proofs.FoundLaws.{copied, sheet-length}
 use Rattle.scalars.proofs.Facts.{read}
 use Rattle.scalars.proofs.scalar_kind.ScalarKindKind.copy.Goals as goal
 
-pub put_at-requires : goal.put_at-requires
-put_at-requires g c =
-    let is = read g.S.Scalar.letters g.S.Width.Primitive.SIZE g.S.Scalar.passes g.E.Endian.order c.args.archive.now c.args.at c.requires.sheet c.requires.read in
-    let l = ap length is ∙ sheet-length g.S.Scalar.letters g.S.Width.Primitive.SIZE _ g.met.S.Scalar.two in
-    let m = ap length c.mark.ensures ∙ g.met.S.Scalar.two in
-    omega (arith, l, m, c.requires.room)
-
 pub lay-requires : goal.lay-requires
 lay-requires g c =
     let is = read g.S.Scalar.letters g.S.Width.Primitive.SIZE g.S.Scalar.passes g.E.Endian.order c.args.archive.now c.args.at c.requires.sheet c.requires.read in

@@ -10,18 +10,6 @@ use Rattle.scalars.proofs.scalar_kind.ScalarKindKind.fill.Goals as goal
 head_alone : (o : Order) (w n m : ℕ) (out new : List ℕ) (h t : ℕ) → n ≡ m → new ≡ put out h (o.lay w n) → new ≡ put (put out h (o.lay w m)) t []
 head_alone o w n m out new h t e f = f ∙ (ap (λ z. put out h (o.lay w z)) e ∙ sym (put_nil (put out h (o.lay w m)) t))
 
-pub overflow_add-at : goal.overflow_add-at
-overflow_add-at g c = let f = found g.S.Scalar.letters g.S.Width.Primitive.SIZE g.S.Scalar.passes c.args.sheet.now c.args.at.now c.requires.next c.requires.found in omega arith
-
-pub take_back-n-requires : goal.take_back-n-requires
-take_back-n-requires g c = let f = found g.S.Scalar.letters g.S.Width.Primitive.SIZE g.S.Scalar.passes c.args.sheet.now c.args.at.now c.requires.next c.requires.found in omega arith
-
-pub overflow_add-at-2 : goal.overflow_add-at-2
-overflow_add-at-2 g c = let f = found g.S.Scalar.letters g.S.Width.Primitive.SIZE g.S.Scalar.passes c.args.sheet.now c.args.at.now c.requires.next c.requires.found in omega arith
-
-pub overflow_add-at-3 : goal.overflow_add-at-3
-overflow_add-at-3 g c = let f = found g.S.Scalar.letters g.S.Width.Primitive.SIZE g.S.Scalar.passes c.args.sheet.now c.args.at.now c.requires.next c.requires.found in omega arith
-
 pub returns : goal.returns
 returns g c =
     let f = found g.S.Scalar.letters g.S.Width.Primitive.SIZE g.S.Scalar.passes c.args.sheet.now c.args.at.now c.requires.next c.requires.found in
