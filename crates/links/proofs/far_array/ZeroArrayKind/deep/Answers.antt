@@ -5,12 +5,7 @@ use Rattle.format.specs.Items.{row}
 use Rattle.format.specs.Links.{held}
 use Rattle.kind.specs.Asked.{length_read}
 use Rattle.holding.proofs.Through.{length-held}
-use Rattle.links.proofs.LinkCalls.{link_seated}
 use Rattle.links.proofs.far_array.ZeroArrayKind.deep.Goals as goal
-
-pub deep-requires : goal.deep-requires
-deep-requires g c =
-    link_seated (row (g.K.Kind.meaning c.args.self.now.item) c.args.self.now.count.value) (row (g.K.Kind.meaning c.row.result.item.now) c.row.result.count) c.row.ensures g.E.Endian.order c.args.archive.now c.args.at c.in_ok-place.place c.requires.capped c.in_ok-place.ensures
 
 pub returns : goal.returns
 returns g c =

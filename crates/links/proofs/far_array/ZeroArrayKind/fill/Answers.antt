@@ -1,26 +1,17 @@
-use Rattle.std.proofs.Common.{◌-◌, sym, ap, ◌∙◌, arith}
+use Rattle.std.proofs.Common.{◌-◌, sym, ap, ◌∙◌}
 use Rattle.format.specs.Places.{up, put, zeros}
 use Rattle.format.specs.Sheets.{far_array_mark}
 use Rattle.format.specs.Items.{row}
 use Rattle.format.proofs.RowLaws.{row_keeps}
 use Rattle.kind.specs.Asked.{filled}
 use Rattle.format.proofs.ByteLists.{typed_bytes}
-use Rattle.links.proofs.LinkCalls.{link-room, link-next, link_reach, link-within, link_fillable, link-filled, link-found, link-told, link_filling, link-same}
+use Rattle.links.proofs.LinkCalls.{link-next, link_reach, link_fillable, link-filled, link-found, link-told, link_filling, link-same}
 use Rattle.links.proofs.far_array.ZeroArrayKind.fill.Goals as goal
-
-pub overflow_add-at : goal.overflow_add-at
-overflow_add-at g c = let r = link-room far_array_mark (row (g.K.Kind.meaning c.args.self.now.item) c.args.self.now.count.value) g.E.Endian.order (row_keeps (g.K.Kind.meaning c.args.self.now.item) c.args.self.now.count.value (g.met.K.Kind.lawful c.args.self.now.item)) c.args.sheet.now (typed_bytes c.args.sheet.now c.type_inv.sheet) c.args.at.now c.requires.next c.requires.found in omega arith
 
 pub reach-place-requires : goal.reach-place-requires
 reach-place-requires g c =
     link_reach far_array_mark (row (g.K.Kind.meaning c.row-row.result.item.now) c.row-row.result.count) g.E.Endian.order (row_keeps (g.K.Kind.meaning c.row-row.result.item.now) c.row-row.result.count (g.met.K.Kind.lawful c.row-row.result.item.now)) c.args.sheet.now (typed_bytes c.args.sheet.now c.type_inv.sheet) c.args.at.now
     c.args.out.now c.args.head c.args.tail (link_filling far_array_mark (row (g.K.Kind.meaning c.args.self.now.item) c.args.self.now.count.value) (row (g.K.Kind.meaning c.row-row.result.item.now) c.row-row.result.count) c.row-row.ensures g.E.Endian.order c.args.sheet.now c.args.at.now c.args.out.now c.args.head c.args.tail c.requires) c.align.result c.align.ensures
-
-pub overflow_add-start : goal.overflow_add-start
-overflow_add-start g c =
-    let r = link-within far_array_mark (row (g.K.Kind.meaning c.row-row.result.item.now) c.row-row.result.count) g.E.Endian.order (row_keeps (g.K.Kind.meaning c.row-row.result.item.now) c.row-row.result.count (g.met.K.Kind.lawful c.row-row.result.item.now)) c.args.sheet.now (typed_bytes c.args.sheet.now c.type_inv.sheet) c.args.at.now
-    c.args.out.now c.args.head c.args.tail (link_filling far_array_mark (row (g.K.Kind.meaning c.args.self.now.item) c.args.self.now.count.value) (row (g.K.Kind.meaning c.row-row.result.item.now) c.row-row.result.count) c.row-row.ensures g.E.Endian.order c.args.sheet.now c.args.at.now c.args.out.now c.args.head c.args.tail c.requires) c.reach-place.result c.size.result (c.reach-place.ensures.place ∙ ap (up c.args.tail) c.align.ensures) c.size.ensures in
-    omega (arith, c.requires.capped)
 
 pub fill-requires : goal.fill-requires
 fill-requires g c =

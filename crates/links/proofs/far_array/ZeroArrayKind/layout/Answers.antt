@@ -1,4 +1,4 @@
-use Rattle.std.proofs.Common.{max, sym, subst, arith}
+use Rattle.std.proofs.Common.{max, sym, subst}
 use Rattle.format.specs.Sheets.{far_array_mark}
 use Rattle.format.specs.Items.{row}
 use Rattle.format.proofs.RowLaws.{row_keeps}
@@ -6,11 +6,8 @@ use Rattle.format.specs.Links.{far_array}
 use Rattle.kind.specs.Asked.{Foretold}
 use Rattle.format.proofs.ByteLists.{typed_bytes}
 use Rattle.holding.proofs.FarAsked.{far-tail_asks, far-tail_is}
-use Rattle.links.proofs.LinkCalls.{link-room, link-next, link_askable, link_foretold, link-found, link-told, link_asked, link_foreseen}
+use Rattle.links.proofs.LinkCalls.{link-next, link_askable, link_foretold, link-found, link-told, link_asked, link_foreseen}
 use Rattle.links.proofs.far_array.ZeroArrayKind.layout.Goals as goal
-
-pub overflow_add-at : goal.overflow_add-at
-overflow_add-at g c = let r = link-room far_array_mark (row (g.K.Kind.meaning c.args.self.now.item) c.args.self.now.count.value) g.E.Endian.order (row_keeps (g.K.Kind.meaning c.args.self.now.item) c.args.self.now.count.value (g.met.K.Kind.lawful c.args.self.now.item)) c.args.sheet.now (typed_bytes c.args.sheet.now c.type_inv.sheet) c.args.at.now c.requires.next c.requires.found in omega arith
 
 pub far_tail-start-requires : goal.far_tail-start-requires
 far_tail-start-requires g c = far-tail_asks (row (g.K.Kind.meaning c.row-row.result.item.now) c.row-row.result.count) (row_keeps (g.K.Kind.meaning c.row-row.result.item.now) c.row-row.result.count (g.met.K.Kind.lawful c.row-row.result.item.now)) c.args.tail c.align.result c.size.result c.requires.reached c.align.ensures c.size.ensures

@@ -1,15 +1,10 @@
 use Rattle.std.proofs.Common.{refl, arith}
 use Rattle.format.specs.Sheets.{pointer_mark}
-use Rattle.holding.proofs.Through.{reads, led_copyable, led_copied}
+use Rattle.holding.proofs.Through.{reads, led_copied}
 use Rattle.links.proofs.pointer.RelativePtrKind.copy.Goals as goal
 
 pub led-requires : goal.led-requires
 led-requires g c = let r = reads (g.K.Kind.meaning c.args.self.now.item) g.E.Endian.order pointer_mark c.args.archive.now c.args.at c.requires.sheet c.requires.read in (c.requires.seated.within, (c.requires.seated.capped, (r.place, r.led)))
-
-pub copy-requires : goal.copy-requires
-copy-requires g c =
-    let r = reads (g.K.Kind.meaning c.args.self.now.item) g.E.Endian.order pointer_mark c.args.archive.now c.args.at c.requires.sheet c.requires.read in
-    led_copyable r c.led.result c.led.ensures c.put_at.new.out c.args.to _ c.requires.seated.capped (omega (arith, c.requires.room, c.put_at.auto.out)) refl
 
 pub returns : goal.returns
 returns g c s h =

@@ -1,20 +1,12 @@
-use Rattle.std.proofs.Common.{◌-◌, sym, ap, ◌∙◌, arith}
+use Rattle.std.proofs.Common.{◌-◌, sym, ap, ◌∙◌}
 use Rattle.format.specs.Places.{up, put, zeros}
 use Rattle.format.specs.Sheets.{pointer_mark}
 use Rattle.format.proofs.ByteLists.{typed_bytes}
-use Rattle.links.proofs.LinkCalls.{link-room, link-next, link_reach, link-within, link_fillable, link-filled}
+use Rattle.links.proofs.LinkCalls.{link-next, link_reach, link_fillable, link-filled}
 use Rattle.links.proofs.pointer.RelativePtrKind.fill.Goals as goal
-
-pub overflow_add-at : goal.overflow_add-at
-overflow_add-at g c = let r = link-room pointer_mark (g.K.Kind.meaning c.args.self.now.item) g.E.Endian.order (g.met.K.Kind.lawful c.args.self.now.item).keeps c.args.sheet.now (typed_bytes c.args.sheet.now c.type_inv.sheet) c.args.at.now c.requires.next c.requires.found in omega arith
 
 pub reach-place-requires : goal.reach-place-requires
 reach-place-requires g c = link_reach pointer_mark (g.K.Kind.meaning c.args.self.now.item) g.E.Endian.order (g.met.K.Kind.lawful c.args.self.now.item).keeps c.args.sheet.now (typed_bytes c.args.sheet.now c.type_inv.sheet) c.args.at.now c.args.out.now c.args.head c.args.tail c.requires c.align.result c.align.ensures
-
-pub overflow_add-place : goal.overflow_add-place
-overflow_add-place g c =
-    let r = link-within pointer_mark (g.K.Kind.meaning c.args.self.now.item) g.E.Endian.order (g.met.K.Kind.lawful c.args.self.now.item).keeps c.args.sheet.now (typed_bytes c.args.sheet.now c.type_inv.sheet) c.args.at.now c.args.out.now c.args.head c.args.tail c.requires c.reach-place.result c.size.result (c.reach-place.ensures.place ∙ ap (up c.args.tail) c.align.ensures) c.size.ensures in
-    omega (arith, c.requires.capped)
 
 pub fill-requires : goal.fill-requires
 fill-requires g c =

@@ -1,14 +1,11 @@
-use Rattle.std.proofs.Common.{sym, subst, arith}
+use Rattle.std.proofs.Common.{sym, subst}
 use Rattle.format.specs.Sheets.{pointer_mark}
 use Rattle.format.specs.Links.{pointer}
 use Rattle.kind.specs.Asked.{Foretold}
 use Rattle.format.proofs.ByteLists.{typed_bytes}
 use Rattle.holding.proofs.FarAsked.{far-tail_asks, far-tail_is}
-use Rattle.links.proofs.LinkCalls.{link-room, link-next, link_askable, link_foretold}
+use Rattle.links.proofs.LinkCalls.{link-next, link_askable, link_foretold}
 use Rattle.links.proofs.pointer.RelativePtrKind.layout.Goals as goal
-
-pub overflow_add-at : goal.overflow_add-at
-overflow_add-at g c = let r = link-room pointer_mark (g.K.Kind.meaning c.args.self.now.item) g.E.Endian.order (g.met.K.Kind.lawful c.args.self.now.item).keeps c.args.sheet.now (typed_bytes c.args.sheet.now c.type_inv.sheet) c.args.at.now c.requires.next c.requires.found in omega arith
 
 pub far_tail-start-requires : goal.far_tail-start-requires
 far_tail-start-requires g c = far-tail_asks (g.K.Kind.meaning c.args.self.now.item) (g.met.K.Kind.lawful c.args.self.now.item).keeps c.args.tail c.align.result c.size.result c.requires.reached c.align.ensures c.size.ensures

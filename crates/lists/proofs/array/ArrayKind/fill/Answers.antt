@@ -1,10 +1,7 @@
-use Rattle.std.proofs.Common.{refl, ap, ◌∙◌, arith}
+use Rattle.std.proofs.Common.{ap, ◌∙◌}
 use Rattle.kind.specs.Asked.{filled}
-use Rattle.lists.proofs.ArrayCalls.{array-room, array-next, array_fillable, array-laid}
+use Rattle.lists.proofs.ArrayCalls.{array-next, array_fillable, array-laid}
 use Rattle.lists.proofs.array.ArrayKind.fill.Goals as goal
-
-pub overflow_add-at : goal.overflow_add-at
-overflow_add-at g c = let r = array-room c.args.self.now.count.value (g.K.Kind.meaning c.args.self.now.item) _ refl c.args.sheet.now c.args.at.now c.requires.next c.requires.found in omega arith
 
 pub fill-requires : goal.fill-requires
 fill-requires g c = array_fillable c.args.self.now.count.value (g.K.Kind.meaning c.args.self.now.item) _ c.row.ensures c.args.sheet.now c.args.at.now c.args.out.now c.args.head c.args.tail c.requires

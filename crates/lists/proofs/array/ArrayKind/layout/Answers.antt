@@ -1,9 +1,5 @@
-use Rattle.std.proofs.Common.{refl, arith}
-use Rattle.lists.proofs.ArrayCalls.{array-room, array-next, array_askable, array_foretold}
+use Rattle.lists.proofs.ArrayCalls.{array-next, array_askable, array_foretold}
 use Rattle.lists.proofs.array.ArrayKind.layout.Goals as goal
-
-pub overflow_add-at : goal.overflow_add-at
-overflow_add-at g c = let r = array-room c.args.self.now.count.value (g.K.Kind.meaning c.args.self.now.item) _ refl c.args.sheet.now c.args.at.now c.requires.next c.requires.found in omega arith
 
 pub layout-requires : goal.layout-requires
 layout-requires g c = array_askable c.args.self.now.count.value (g.K.Kind.meaning c.args.self.now.item) _ c.row.ensures c.args.sheet.now c.args.at.now c.args.tail c.requires

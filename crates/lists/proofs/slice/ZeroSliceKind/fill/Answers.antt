@@ -1,23 +1,11 @@
-use Rattle.std.proofs.Common.{◌+◌, ◌-◌, sym, ap, ◌∙◌, arith}
+use Rattle.std.proofs.Common.{◌+◌, ◌-◌, sym, ap, ◌∙◌}
 use Rattle.format.specs.Places.{up, put, zeros}
 use Rattle.format.proofs.ByteLists.{typed_bytes}
-use Rattle.lists.proofs.SliceCalls.{slice-room, slice-next, slice-reach, slice-within, slice-fillable, slice-filled}
+use Rattle.lists.proofs.SliceCalls.{slice-next, slice-reach, slice-fillable, slice-filled}
 use Rattle.lists.proofs.slice.ZeroSliceKind.fill.Goals as goal
-
-pub overflow_add-at : goal.overflow_add-at
-overflow_add-at g c = let r = slice-room (g.K.Kind.meaning c.args.self.now.item) g.E.Endian.order c.args.sheet.now c.args.at.now c.requires.next c.requires.found in omega arith
-
-pub take_back-count-requires : goal.take_back-count-requires
-take_back-count-requires g c = let r = slice-room (g.K.Kind.meaning c.args.self.now.item) g.E.Endian.order c.args.sheet.now c.args.at.now c.requires.next c.requires.found in omega arith
-
-pub overflow_add-at-2 : goal.overflow_add-at-2
-overflow_add-at-2 g c = let r = slice-room (g.K.Kind.meaning c.args.self.now.item) g.E.Endian.order c.args.sheet.now c.args.at.now c.requires.next c.requires.found in omega arith
 
 pub reach-place-requires : goal.reach-place-requires
 reach-place-requires g c = slice-reach (g.K.Kind.meaning c.args.self.now.item) g.E.Endian.order c.args.sheet.now c.args.at.now c.take_back-count.result c.take_back-count.ensures.value _ c.row-row.ensures (g.met.K.Kind.lawful c.args.self.now.item) (typed_bytes c.args.sheet.now c.type_inv.sheet) c.args.out.now c.args.head c.args.tail c.requires c.lay.new.out c.lay.auto.out c.align.result c.align.ensures
-
-pub overflow_add-start : goal.overflow_add-start
-overflow_add-start g c = let r = slice-within (g.K.Kind.meaning c.args.self.now.item) g.E.Endian.order c.args.sheet.now c.args.at.now c.take_back-count.result c.take_back-count.ensures.value _ c.row-row.ensures (g.met.K.Kind.lawful c.args.self.now.item) (typed_bytes c.args.sheet.now c.type_inv.sheet) c.args.out.now c.args.head c.args.tail c.requires c.reach-place.result c.size.result (c.reach-place.ensures.place ∙ ap (up c.args.tail) c.align.ensures) c.size.ensures in omega (arith, c.requires.capped)
 
 pub fill-requires : goal.fill-requires
 fill-requires g c = slice-fillable (g.K.Kind.meaning c.args.self.now.item) g.E.Endian.order c.args.sheet.now c.args.at.now c.take_back-count.result c.take_back-count.ensures.value _ c.row-row.ensures (g.met.K.Kind.lawful c.args.self.now.item) (typed_bytes c.args.sheet.now c.type_inv.sheet) c.args.out.now c.args.head c.args.tail c.requires c.reach-place.result c.size.result (c.reach-place.ensures.place ∙ ap (up c.args.tail) c.align.ensures) c.size.ensures c.reach-place.new.out (c.reach-place.auto.out ∙ c.lay.auto.out)

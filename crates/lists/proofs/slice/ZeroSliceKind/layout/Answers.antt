@@ -1,21 +1,12 @@
-use Rattle.std.proofs.Common.{sym, subst, arith}
+use Rattle.std.proofs.Common.{sym, subst}
 use Rattle.format.specs.Items.{row}
 use Rattle.format.specs.Links.{slice}
 use Rattle.format.proofs.RowLaws.{row_keeps}
 use Rattle.kind.specs.Asked.{Foretold}
 use Rattle.format.proofs.ByteLists.{typed_bytes}
 use Rattle.holding.proofs.FarAsked.{far-tail_asks, far-tail_is}
-use Rattle.lists.proofs.SliceCalls.{slice-room, slice-next, slice-askable, slice-foretold}
+use Rattle.lists.proofs.SliceCalls.{slice-next, slice-askable, slice-foretold}
 use Rattle.lists.proofs.slice.ZeroSliceKind.layout.Goals as goal
-
-pub overflow_add-at : goal.overflow_add-at
-overflow_add-at g c = let r = slice-room (g.K.Kind.meaning c.args.self.now.item) g.E.Endian.order c.args.sheet.now c.args.at.now c.requires.next c.requires.found in omega arith
-
-pub take_back-count-requires : goal.take_back-count-requires
-take_back-count-requires g c = let r = slice-room (g.K.Kind.meaning c.args.self.now.item) g.E.Endian.order c.args.sheet.now c.args.at.now c.requires.next c.requires.found in omega arith
-
-pub overflow_add-at-2 : goal.overflow_add-at-2
-overflow_add-at-2 g c = let r = slice-room (g.K.Kind.meaning c.args.self.now.item) g.E.Endian.order c.args.sheet.now c.args.at.now c.requires.next c.requires.found in omega arith
 
 pub far_tail-start-requires : goal.far_tail-start-requires
 far_tail-start-requires g c = far-tail_asks (row (g.K.Kind.meaning c.row-row.result.item.now) c.row-row.result.count) (row_keeps (g.K.Kind.meaning c.row-row.result.item.now) c.row-row.result.count (g.met.K.Kind.lawful c.row-row.result.item.now)) c.args.tail c.align.result c.size.result c.requires.reached c.align.ensures c.size.ensures
