@@ -1,23 +1,18 @@
 -- What a distance behind a mark asks of what it leads to, and what it answers by it. Assumes nothing.
 use Rattle.std.proofs.Common.{◌≡◌, ℕ, ◌+◌, ◌-◌, ◌≤◌, max, List, length, sym, refl, ap, ◌∙◌, subst, arith}
-use Rattle.format.specs.Places.{limit, stop, up, zeros, put, Bytes}
+use Rattle.format.specs.Places.{stop, up, zeros, put, Bytes}
 use Rattle.format.specs.Orders.{Order, Undoes}
-use Rattle.format.specs.Meaning.{Meaning, Keeps, Sits}
-use Rattle.format.specs.Links.{far, link, linked}
-use Rattle.format.specs.Answers.{good}
-use Rattle.format.proofs.FarLaws.{linked_parts}
+use Rattle.format.specs.Meaning.{Meaning, Keeps}
+use Rattle.format.specs.Links.{far, link}
 use Rattle.format.proofs.OrderLaws.{width_4}
-use Rattle.kind.specs.Asked.{value_at, Next, Askable, Foretold, Fillable, filled, Seated}
+use Rattle.kind.specs.Asked.{value_at, Next, Askable, Foretold, Fillable, filled}
 use Rattle.holding.proofs.Fronts.{Held, held-there}
 use Rattle.holding.proofs.FarAsked.{Reachable, reachable}
-use Rattle.holding.proofs.FarFilled.{Room, far_askable, far_foretold, far-room, far_within, far_fillable, far-filled}
+use Rattle.holding.proofs.FarFilled.{Room, far_askable, far_foretold, far-room, far_fillable, far-filled}
 
 module _ (mark : List ℕ) (m : Meaning) (o : Order) (k : Keeps m) (s : List ℕ) (bytes : Bytes s) (p : ℕ) where
   inner : (q : ℕ) → Next (link mark m o) s p q → Held mark 0 m s p q
   inner = held-there mark 0 m s p
-
-  pub link-room : (q : ℕ) → Next (link mark m o) s p q → p + 2 ≤ length s
-  link-room q h = (inner q h).room
 
   pub link-next : (q r : ℕ) → Next (link mark m o) s p q → Next m s (p + 2) r → Next (link mark m o) s p r
   link-next q r h i = h ∙ (sym (inner q h).found ∙ i)
@@ -43,9 +38,6 @@ module _ (mark : List ℕ) (m : Meaning) (o : Order) (k : Keeps m) (s : List ℕ
     link_reach w e = let r = room.within in reachable m k out h t f.behind (omega arith) f.capped w e
 
     module _ (q z : ℕ) (e : q ≡ up t m.align) (g : z ≡ m.size) where
-      pub link-within : q + z ≤ length out
-      link-within = far_within m k s (p + 2) f.next t bytes (inner f.next f.found).found (length out) f.capped fits q z e g
-
       pub link_fillable : (next : List ℕ) → length next ≡ length out → Fillable m s (p + 2) next q (q + z)
       link_fillable = far_fillable m k s (p + 2) f.next t bytes (inner f.next f.found).found (length out) f.capped fits q z e g
 
@@ -91,9 +83,3 @@ module _ (mark : List ℕ) (m b : Meaning) (is : b ≡ m) (o : Order) (s : List 
 
   pub link-same : (h t : ℕ) → (link mark b o).lay (value_at (link mark b o) s p) h t ≡ (link mark m o).lay (value_at (link mark m o) s p) h t
   link-same h t = ap (λ r. (link mark r o).lay (value_at (link mark r o) s p) h t) is
-
--- what a good answer through a distance says of the place that it tells
-pub link_seated : (m b : Meaning) → b ≡ m → (o : Order) (a : List ℕ) (d q : ℕ) → length a ≤ limit → good q ≡ linked m o a d → Seated b a q
-link_seated m b is o a d q capped h =
-    let sits = subst (λ r. Sits r a q) (sym is) (linked_parts m o a d q (sym h)).1 in
-    record { capped = capped; within = sits.0; aligned = sits.1 }

@@ -25,9 +25,6 @@ module _ (n : ℕ) (m b : Meaning) (is : b ≡ row m n) (s : List ℕ) (p : ℕ)
   found : (q : ℕ) → Next (array n m) s p q → Next b s (p + 2) q
   found q h = subst (λ r. Next r s (p + 2) q) (sym is) (inner q h).found
 
-  pub array-room : (q : ℕ) → Next (array n m) s p q → p + 2 ≤ length s
-  array-room q h = (inner q h).room
-
   pub array-next : (q r : ℕ) → Next (array n m) s p q → Next b s (p + 2) r → Next (array n m) s p r
   array-next q r h i = h ∙ (sym (found q h) ∙ i)
 

@@ -17,7 +17,7 @@ use Rattle.format.proofs.RowLaws.{row_keeps}
 use Rattle.format.proofs.SheetLaws.{number_read-end, number_of_is, scan_number-any}
 use Rattle.kind.specs.Asked.{value_at, Next, Askable, Foretold, Fillable, filled}
 use Rattle.holding.proofs.Fronts.{Held, held-there, behind-good}
-use Rattle.holding.proofs.FarFilled.{Room, far_askable, far_foretold, far-room, far_within, far_fillable, far-filled}
+use Rattle.holding.proofs.FarFilled.{Room, far_askable, far_foretold, far-room, far_fillable, far-filled}
 use Rattle.holding.proofs.Through.{held_parts}
 use Rattle.holding.proofs.FarAsked.{Reachable, reachable}
 
@@ -36,9 +36,6 @@ module _ (m : Meaning) (o : Order) (s : List ℕ) (p : ℕ) where
 
   inner : (q : ℕ) → Next (slice m o) s p q → Held slice_mark 4 (row m (number_of 4 (drop p s))) s p q
   inner = held-there slice_mark 4 (row m (number_of 4 (drop p s))) s p
-
-  pub slice-room : (q : ℕ) → Next (slice m o) s p q → p + 6 ≤ length s
-  slice-room q h = (inner q h).room
 
   -- by the count that is taken from the sheet; b is the row as the code has it
   module _ (n : ℕ) (count : n ≡ number (part (p + 2) 4 s)) (b : Meaning) (means : b ≡ row m n) where
@@ -89,9 +86,6 @@ module _ (m : Meaning) (o : Order) (s : List ℕ) (p : ℕ) where
             reachable b (keeps law) mid (h + 4) t (omega arith) (omega arith) (omega arith) w e
 
         module _ (q z : ℕ) (e : q ≡ up t b.align) (g : z ≡ b.size) where
-          pub slice-within : q + z ≤ length out
-          slice-within = far_within b (keeps law) s (p + 6) f.next t bytes (found f.next f.found) (length out) f.capped fits q z e g
-
           pub slice-fillable : (next : List ℕ) → length next ≡ length out → Fillable b s (p + 6) next q (q + z)
           slice-fillable = far_fillable b (keeps law) s (p + 6) f.next t bytes (found f.next f.found) (length out) f.capped fits q z e g
 

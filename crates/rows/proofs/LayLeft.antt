@@ -1,5 +1,5 @@
 -- A row that is laid out or filled in item by item: what is done, and what is left. Assumes nothing.
-use Rattle.std.proofs.Common.{◌≡◌, ℕ, zero, suc, ◌+◌, ◌%◌, ◌≤◌, max, List, [], ◌++◌, length, sym, refl, ap, ◌∙◌, subst, append_assoc, append-nil, add-zero, arith}
+use Rattle.std.proofs.Common.{◌≡◌, ℕ, zero, suc, ◌+◌, ◌%◌, ◌≤◌, max, List, [], ◌++◌, length, sym, refl, ap, ◌∙◌, subst, append_assoc, add-zero, arith}
 use Rattle.std.proofs.lemmas.List.{length-append}
 use Rattle.format.specs.Places.{put, Bytes}
 use Rattle.format.specs.Meaning.{Meaning, Laid, Keeps, Laws}
@@ -206,12 +206,3 @@ module _ {m : Meaning} {n : ℕ} {s : List ℕ} {p : ℕ} {first : List ℕ} {h 
           below = omega arith;
           long = long ∙ l.long;
         }
-
-pub fill_all :
-    {m : Meaning} {n : ℕ} {s : List ℕ} {p : ℕ} {first : List ℕ} {h t q : ℕ} {out : List ℕ} {g e : ℕ} → FillLeft m n s p first h t 0 q out g e →
-    (out ≡ filled first h t (laid m s n p h t)) × (e ≡ (laid m s n p h t).end) × Next (row m n) s p q
-fill_all {m} {n} {s} {p} {first} {h} {t} {q} {out} {g} {e} l = (
-  l.is ∙ (ap (λ z. put (put first h z) t l.tails) (sym (l.head ∙ append-nil l.heads)) ∙ ap (put (put first h (laid m s n p h t).head) t) (sym (l.tail ∙ append-nil l.tails))),
-  sym l.end,
-  subst (Next (row m n) s p) (nothing m s q l.rest.next l.rest.found) l.all,
-)

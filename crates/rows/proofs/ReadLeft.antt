@@ -1,6 +1,5 @@
 -- A row that is read item by item: what is left answers for the whole. Assumes nothing.
-use Rattle.std.proofs.Common.{◌≡◌, ℕ, zero, suc, ◌+◌, ◌-◌, ◌*◌, ◌%◌, ◌^◌, ◌<◌, ◌≤◌, min, List, ◌++◌, length, Some, sym, refl, ap, ◌∙◌, mul-le-mul_right, add-mul, add-one, mul-zero, mul-suc, arith}
-use native.Mathlib.Nat.{sub-zero}
+use Rattle.std.proofs.Common.{◌≡◌, ℕ, zero, suc, ◌+◌, ◌-◌, ◌*◌, ◌%◌, ◌<◌, ◌≤◌, min, List, ◌++◌, length, Some, sym, refl, ap, ◌∙◌, mul-le-mul_right, add-mul, add-one, mul-zero, mul-suc, arith}
 use Rattle.std.proofs.lemmas.List.{length-append}
 use Rattle.format.specs.Answers.{Answer, Fault, good, bad, both}
 use Rattle.format.specs.Meaning.{Meaning, Keeps}
@@ -39,9 +38,6 @@ module _ (m : Meaning) (n : ℕ) {a : List ℕ} {p : ℕ} (w : Seated (row m n) 
       let d = w.within in
       omega arith
 
-  pub head_fits : (i : ℕ) → i ≤ n → head m p i < 2 ^ 64
-  head_fits i h = let f = head_within i h in let c = w.capped in omega arith
-
   pub head-seated : Keeps m → (i q : ℕ) → i < n → q ≡ head m p i → Seated m a q
   head-seated k i q h e = record {
     capped = w.capped;
@@ -52,9 +48,6 @@ module _ (m : Meaning) (n : ℕ) {a : List ℕ} {p : ℕ} (w : Seated (row m n) 
 -- one look at each head
 pub record ShallowLeft (m : Meaning) (n : ℕ) (a : List ℕ) (p i : ℕ) : Type 0 where
   pub whole : shallow_items m n a p ≡ shallow_items m (n - i) a (head m p i)
-
-pub shallow-none : (m : Meaning) (n : ℕ) (a : List ℕ) (p : ℕ) → ShallowLeft m n a p 0
-shallow-none m n a p = record { whole = ap (λ z. shallow_items m z a p) (sym (sub-zero n)) ∙ ap (shallow_items m (n - 0) a) (sym (head-none m p)) }
 
 module _ {m : Meaning} {n : ℕ} {a : List ℕ} {p i : ℕ} (l : ShallowLeft m n a p i) where
   module _ (h : i < n) (q : ℕ) (e : q ≡ head m p i) where
@@ -88,12 +81,6 @@ pub record DeepLeft (m : Meaning) (n : ℕ) (a : List ℕ) (p i t : ℕ) : Type 
 after_none : (x : Answer (List ℕ)) → length_read x ≡ after 0 (length_read x)
 after_none (good s) = let k : min (length s) most ≡ min (0 + min (length s) most) most = omega arith in ap good k
 after_none (bad f) = refl
-
-pub deep_none : (m : Meaning) (n : ℕ) (a : List ℕ) (p : ℕ) → DeepLeft m n a p 0 0
-deep_none m n a p = record {
-  capped = omega arith;
-  whole = after_none (read_items m n a p) ∙ (ap (λ z. after 0 (length_read (read_items m z a p))) (sym (sub-zero n)) ∙ ap (λ z. after 0 (length_read (read_items m (n - 0) a z))) (sym (head-none m p)));
-}
 
 -- one item before the others
 one_more :

@@ -1,6 +1,5 @@
 -- A row that is scanned item by item: what is left answers for the whole. Assumes nothing.
-use Rattle.std.proofs.Common.{◌≡◌, ℕ, suc, ◌+◌, ◌-◌, ◌<◌, ◌≤◌, List, length, sym, ap, ◌∙◌, add-zero, arith}
-use native.Mathlib.Nat.{sub-zero}
+use Rattle.std.proofs.Common.{◌≡◌, ℕ, suc, ◌+◌, ◌-◌, ◌<◌, ◌≤◌, List, length, ap, ◌∙◌, add-zero, arith}
 use Rattle.format.specs.Answers.{Fault, good, bad}
 use Rattle.format.specs.Sheets.{at_place}
 use Rattle.format.specs.Meaning.{Meaning}
@@ -13,9 +12,6 @@ pub record ScanLeft (m : Meaning) (n : ℕ) (s : List ℕ) (p i q : ℕ) : Type 
   pub onward : p ≤ q
   pub within : q ≤ length s
   pub whole : at_place (scan_items m n) s p ≡ at_place (scan_items m (n - i)) s q
-
-pub scan-none : (m : Meaning) (n : ℕ) (s : List ℕ) (p : ℕ) → p ≤ length s → ScanLeft m n s p 0 p
-scan-none m n s p h = record { onward = omega arith; within = h; whole = ap (λ z. at_place (scan_items m z) s p) (sym (sub-zero n)) }
 
 module _ {m : Meaning} {n : ℕ} {s : List ℕ} {p i q : ℕ} (l : ScanLeft m n s p i q) where
   next : i < n → at_place (scan_items m n) s p ≡ at_place (scan_items m (suc (n - (i + 1)))) s q
