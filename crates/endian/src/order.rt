@@ -108,6 +108,7 @@ impl Endian for BigEndian {
 
     ghost undoes = { big_undoes };
 
+    // A reversal undoes itself.
     fn arrange(bytes: &mut [u8]) {
         bytes.reverse();
     }

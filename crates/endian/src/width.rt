@@ -52,6 +52,7 @@ pub struct Width4;
 #[derive(Clone, Copy)]
 pub struct Width8;
 
+// Four impls of a line for each function: each width has a number type of its own, and no `impl` may come from a macro of the repository.
 impl Primitive for Width1 {
     type Number = u8;
 

@@ -42,6 +42,7 @@ impl<K: Kind + Drop, E: Endian> ZeroArray<K, E> {
 }
 
 impl<K: Kind, E: Endian> ZeroArray<K, E> {
+    // As of an inline array.
     fn row(&self) -> Row<'_, K>
         ensures { row (K.Kind.meaning result.item.now) result.count ≡ row (K.Kind.meaning self.now.item) self.now.count.value }
     {

@@ -31,6 +31,7 @@ impl<K: Kind + Drop> Array<K> {
 }
 
 impl<K: Kind> Array<K> {
+    // A far array has the same line: a type for item and count would put a name more before each of them.
     fn row(&self) -> Row<'_, K>
         ensures { row (K.Kind.meaning result.item.now) result.count ≡ row (K.Kind.meaning self.now.item) self.now.count.value }
     {

@@ -16,6 +16,7 @@ pub struct Refusal {
     pub depth: u32,
 }
 
+// Where depths stop: a number of their own type, beside the stop of sizes in `buffer`.
 const DEEPEST: u32 = 2_147_483_648;
 
 impl Cause {

@@ -38,6 +38,7 @@ impl<S: Scalar, E: Endian> Kind for ScalarKind<S, E> {
         S::Width::SIZE
     }
 
+    // A scalar is aligned by its size.
     fn align(&self) -> usize {
         S::Width::SIZE
     }
