@@ -37,6 +37,7 @@ pub enum Trouble {
     Memory(#[from(alloc)] AllocError),
 }
 
+// By hand: an error of `hex` becomes one of three.
 impl From<FromHexError> for Trouble {
     fn from(error: FromHexError) -> Trouble {
         match error {
