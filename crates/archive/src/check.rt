@@ -20,6 +20,7 @@ pub fn root<K: Kind>(kind: &K, archive: &[u8], place: usize) -> Result<usize, Re
     sits(place, place, kind.size(), kind.align(), archive.len())
 }
 
+// The two checks stay two functions: what they share is `root`.
 // One look: the root, whether its target sits, and text, truth or character in its head.
 pub fn is_valid<K: Kind>(kind: &K, archive: &[u8], place: usize) -> Result<usize, Refusal>
     ensures { told result ≡ is_valid_by (K.Kind.meaning kind.now) archive.now place }

@@ -11,7 +11,8 @@ mod events;
 mod growth;
 mod planning;
 
-// How much of the buffer is the archive, its largest alignment, and how long the buffer was at the start.
+// How much of the buffer is the archive, its largest alignment, and how long the buffer was at the start. Plain numbers: the buffer is lent
+// to each call, so that the caller keeps it.
 #[derive(Drop)]
 pub struct ZeroBuilder {
     used: usize,

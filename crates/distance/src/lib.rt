@@ -25,6 +25,7 @@ pub fn target<E: Endian>(archive: &[u8], at: usize) -> Result<usize, Refusal>
 }
 
 // A place, if so many bytes sit there at an alignment in an archive of a length; a refusal names the place that led there.
+// Size and alignment are two numbers: a kind answers each by itself.
 pub fn sits(
     named: usize,
     place: usize,
@@ -45,7 +46,7 @@ pub fn sits(
     Ok(place)
 }
 
-// The same, if so many bytes sit there at an alignment; a refusal names the place of the distance.
+// Where the distance at a place leads, if so many bytes sit there at an alignment; a refusal names the place of the distance.
 pub fn follow<E: Endian>(
     archive: &[u8],
     at: usize,

@@ -6,6 +6,7 @@ ghost use Rattle.format.proofs.OrderLaws.{little_undoes, big_undoes};
 pub trait Endian {
     ghost order: { Order };
 
+    // Two functions, since an order of one's own need not undo itself.
     // Turns the bytes of a number from the lowest first into this order.
     fn arrange(bytes: &mut [u8])
         requires { Width (length bytes.old) }
@@ -89,7 +90,7 @@ pub struct LittleEndian;
 #[derive(Clone, Copy, PartialEq, Eq, Debug)]
 pub struct BigEndian;
 
-// The order of the machine that programs are built for, x86-64: the lowest byte first.
+// The order of the machine that programs are built for, x86-64: the lowest byte first. A type of its own, as in the Rust.
 #[derive(Clone, Copy, PartialEq, Eq, Debug)]
 pub struct NativeEndian;
 

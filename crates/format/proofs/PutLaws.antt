@@ -7,6 +7,10 @@ use Rattle.format.proofs.ByteLists.{length-put}
 pub put_nil : (buf : List ℕ) (p : ℕ) → put buf p [] ≡ buf
 put_nil buf p = ap (λ z. take p buf ++ drop z buf) (add-zero p) ∙ take-append-drop p buf
 
+-- a head, told by a number, and no tail
+pub head-alone : (lay : ℕ → List ℕ) (n m : ℕ) (out new : List ℕ) (h t : ℕ) → n ≡ m → new ≡ put out h (lay n) → new ≡ put (put out h (lay m)) t []
+head-alone lay n m out new h t e f = f ∙ (ap (λ z. put out h (lay z)) e ∙ sym (put_nil (put out h (lay m)) t))
+
 -- one part right behind another
 pub put-put : (buf : List ℕ) (p : ℕ) (xs ys : List ℕ) (q : ℕ) → p ≤ length buf → q ≡ p + length xs → put (put buf p xs) q ys ≡ put buf p (xs ++ ys)
 put-put buf p xs ys q h e =

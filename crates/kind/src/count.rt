@@ -15,7 +15,7 @@ pub struct Count {
 }
 
 impl Count {
-    // Another number is refused.
+    // Another number is refused. As the other kinds are made by `new`, so is this; a `TryFrom` would say it under another name.
     pub fn new(n: usize) -> Result<Count, Refusal>
         ensures { told_by (λ c. c.value) result ≡ counted n }
     {

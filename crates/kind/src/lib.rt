@@ -19,7 +19,8 @@ pub use found::{Found, OneStep, Part};
 
 // A sheet or an archive and a place in it stay two parameters, here and in the crates above: each call goes on with the same bytes at
 // another place, so a struct of the two would be made anew at each. What callers show of them, as `Seated`, speaks of a kind's meaning
-// too; a type for it would hold all three, and would have to be made by each kind for each value that it holds.
+// too; a type for it would hold all three, and would have to be made by each kind for each value that it holds. So do an output and the
+// places in it, `to`, `head` and `tail`: each value that is held gets others. What `layout` tells is a pair, which is taken apart at once.
 pub trait Kind {
     // size and alignment, sheets, layout and readings
     ghost meaning: { Self → Meaning };

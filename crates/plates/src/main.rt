@@ -5,7 +5,6 @@ use anyhow::anyhow;
 use plate_lists::{ListError, lines, list_words, sheet_of_texts};
 use refusal::Refusal;
 use sheet::Word;
-use std::alloc::Global;
 use std::io::{self, Read};
 use std::{env, fs, mem, str};
 
@@ -84,9 +83,11 @@ fn show(rt: &HostRuntime, words: &[Word], sheet_length: usize) -> anyhow::Result
     Ok(())
 }
 
-fn show_list(rt: &HostRuntime, heap: Global, texts: &[&[u8]]) -> anyhow::Result<()> {
-    let sheet = sheet_of_texts(heap, texts).map_err(|error| stopped(rt, texts, error))?;
-    let words = list_words(heap, sheet.as_slice()).map_err(|error| stopped(rt, texts, error))?;
+fn show_list(rt: &HostRuntime, texts: &[&[u8]]) -> anyhow::Result<()> {
+    let sheet = sheet_of_texts(rt.alloc(), texts).map_err(|error| stopped(rt, texts, error))?;
+    let words = list_words(rt.alloc(), sheet.as_slice()).map_err(|error| stopped(
+        rt, texts, error,
+    ))?;
     show(rt, words.as_slice(), sheet.len())
 }
 
@@ -96,7 +97,7 @@ fn run(rt: &HostRuntime) -> anyhow::Result<()> {
     if texts.is_empty() {
         return Err(anyhow!("the list is empty: it has no plate"));
     }
-    show_list(rt, rt.alloc(), texts.as_slice())
+    show_list(rt, texts.as_slice())
 }
 
 fn main(rt: HostRuntime) -> anyhow::Result<()> {

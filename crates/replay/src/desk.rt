@@ -37,10 +37,8 @@ impl Desk {
     }
 
     pub fn opened(&self) -> Result<(), Unread> {
-        match self.builder {
-            Some(_) => Ok(()),
-            None => Err(Unread::NoBuilder),
-        }
+        self.builder.as_ref().ok_or(Unread::NoBuilder)?;
+        Ok(())
     }
 
     pub fn builder(&mut self) -> Result<&mut ZeroBuilder, Unread> {

@@ -44,6 +44,7 @@ impl<'a> Task<'a> {
         Ok(Task::Kind(name, order, call))
     }
 
+    // A line is text: its calls are told apart by their names here, and nowhere behind.
     // The first fault is told: of the bytes, then that no builder is open, then of the numbers, then of the kind and the order.
     fn read(words: Words<'a>, desk: &Desk) -> Result<Task<'a>, Trouble> {
         match words.word(0)? {

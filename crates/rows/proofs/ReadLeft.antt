@@ -62,10 +62,8 @@ module _ {m : Meaning} {n : ℕ} {a : List ℕ} {p i : ℕ} (l : ShallowLeft m n
     pub shallow-bad : (f : Fault) → m.shallow a q ≡ bad f → shallow_items m n a p ≡ bad f
     shallow-bad f g = looked ∙ both-bad (m.shallow a q) f _ g
 
-  pub shallow_all : n ≤ i → i ≤ n → (q : ℕ) → q ≡ head m p n → shallow_items m n a p ≡ good q
-  shallow_all h g q e =
-      let same : i ≡ n = omega arith in
-      l.whole ∙ (ap (λ z. shallow_items m z a (head m p i)) (left_zero n i h) ∙ ap good (ap (head m p) same ∙ sym e))
+  pub shallow_all : n ≤ i → (q : ℕ) → q ≡ head m p i → shallow_items m n a p ≡ good q
+  shallow_all h q e = l.whole ∙ (ap (λ z. shallow_items m z a (head m p i)) (left_zero n i h) ∙ ap good (sym e))
 
 -- all that is read from each head: t bytes, and what is left
 abbrev most : ℕ

@@ -11,7 +11,7 @@ use kind::Kind;
 use refusal::Refusal;
 
 // These stay loops over the index: a step may be refused, or writes behind what the last one wrote, and the invariant of a loop says what
-// stands after each; `try_fold` and a place for each head would say it of a closure.
+// stands after each. With places by `step_by` the invariant would have to divide by an item's size.
 impl<K: Kind> Row<'_, K> {
     // One look at each head in turn: the place behind the last, or the first fault.
     pub fn shallow(&self, archive: &[u8], at: usize) -> Result<usize, Refusal>

@@ -100,7 +100,7 @@ fn answer_text(rt: &HostRuntime, line: &str) -> anyhow::Result<()> {
     Ok(())
 }
 
-// How much of a value a check reads: its head, or all that is read from it.
+// How much of a value a check reads: its head, or all that is read from it. An enum and no closure, which is of one kind: a check is of eight.
 #[derive(Clone, Copy)]
 enum Depth {
     Shallow,

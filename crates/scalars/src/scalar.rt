@@ -23,7 +23,7 @@ pub trait Scalar {
     fn mark() -> &'static [u8; 2]
         ensures { result.now ≡ letters };
 
-    // Whether a number of this width is such a scalar.
+    // Whether a number of this width is such a scalar. By its ranges: `char::from_u32` would take a conversion first.
     fn valid(n: u64) -> bool
         ensures { result ≡ passes n };
 

@@ -1,4 +1,4 @@
-// The marks: two ASCII letters that begin each value of a sheet.
+// The marks: two ASCII letters that begin each value of a sheet. Byte strings and no enum: a kind from outside brings a mark of its own.
 
 pub const N1: &[u8; 2] = b"N1";
 

@@ -42,6 +42,7 @@ pub fn truth(sheet: &[u8], at: usize) -> Result<bool, Refusal>
     ensures told { told_by bit result ≡ number_read truth_mark 1 is_truth sheet.now at }
     ensures within { OnOk result (at + 3 ≤ length sheet.now) }
 {
+    // No `TryFrom`: the library has none of a byte for a truth.
     match number::<Width1>(sheet, at, marks::BO)? {
         0 => Ok(false),
         1 => Ok(true),

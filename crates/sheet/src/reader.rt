@@ -10,6 +10,7 @@ use crate::word::{Form, Read, Word};
 use endian::width::{Primitive, Width1, Width2, Width4, Width8};
 use refusal::{Cause, Refusal};
 
+// A reader for each word: each calls another part and ends by its own rule; what they share is one struct literal.
 fn number_word<'a, P: Primitive>(
     sheet: &'a [u8],
     at: usize,

@@ -19,6 +19,7 @@ pub fn cut_length(bytes: &[u8], capacity: usize) -> usize
     if bytes.len() <= capacity {
         return bytes.len();
     }
+    // No `rposition` over the bytes from 1 on: what it finds counts from there, and is none where the cut is empty; both would be turned back.
     for end in (1..=capacity).rev() {
         if !goes_on(bytes[end]) {
             return end;

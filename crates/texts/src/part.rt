@@ -25,6 +25,7 @@ fn text_part(archive: &[u8], head: usize, place: usize, count: usize) -> Result<
     Ok(Part { place, bytes })
 }
 
+// That a part lies within its archive is said of the two together, so no type of the part holds it.
 // The text of the head at a place. One of no bytes is found behind its length, and its distance is ignored.
 pub fn text_at<E: Endian>(archive: &[u8], at: usize) -> Result<Part<'_>, Refusal>
     requires { (at + 8 ≤ length archive.now) × (length archive.now ≤ limit) }

@@ -15,6 +15,7 @@ impl Recogniser {
         }
     }
 
+    // A state and a byte decide together, so each move is an arm of one match.
     // Takes one byte. False where no text begins with what was fed; the position is then as it was.
     pub fn feed(&mut self, byte: u8) -> bool
         ensures moved { (if result then stands self.new.position else broken) ≡ move (stands self.old.position) byte }

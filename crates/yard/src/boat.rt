@@ -79,7 +79,7 @@ fn pointer_to<R: Root>() -> Pointer<R::Item> {
     Pointer::new(list_of::<R>())
 }
 
-// Something of each of the three lists.
+// Something of each of the three lists. What is done with each is written out three times: no loop goes over types.
 #[derive(Drop)]
 pub struct PerList<T> {
     pub numbers: T,
@@ -154,6 +154,7 @@ pub enum CopyError {
 // The sheet of one list. A list that shares bytes can have a longer sheet than its archive, so the output grows until it has room.
 pub fn copy<R: Root>(heap: Global, archive: &[u8]) -> Result<Vec<u8>, CopyError> {
     let mut room = archive.len();
+    // A loop needs an end: doubled so often, no room is larger.
     for _ in 0..usize::BITS {
         let mut output = vec![in heap; 0; room]?;
         match copy_out(&pointer_to::<R>(), archive, R::PLACE, output.as_mut_slice()) {
@@ -164,7 +165,7 @@ pub fn copy<R: Root>(heap: Global, archive: &[u8]) -> Result<Vec<u8>, CopyError>
             }
         }
     }
-    Err(CopyError::Refused(Refusal::whole(Cause::NoRoom)))
+    Err(CopyError::Memory(AllocError))
 }
 
 // Texts or lists side by side: the place of the first, and how many.
@@ -174,6 +175,7 @@ pub struct Items {
     pub count: u32,
 }
 
+// Which case is found follows from the kind that was asked; the others are answered too, so that nothing has to fail.
 impl From<Found<'_>> for Items {
     fn from(found: Found<'_>) -> Items {
         match found {

@@ -1,20 +1,14 @@
-use Rattle.std.proofs.Common.{◌≡◌, ℕ, ◌+◌, List, [], sym, refl, ap, ◌∙◌, arith}
+use Rattle.std.proofs.Common.{◌≡◌, ◌+◌, sym, refl, ap, ◌∙◌, arith}
 use Rattle.format.specs.Answers.{good}
-use Rattle.format.specs.Places.{put}
-use Rattle.format.specs.Orders.{Order}
-use Rattle.format.proofs.PutLaws.{put_nil}
+use Rattle.format.proofs.PutLaws.{head-alone}
 use Rattle.format.proofs.FoundLaws.{found}
 use Rattle.scalars.proofs.scalar_kind.ScalarKindKind.fill.Goals as goal
-
--- a head and no tail
-head_alone : (o : Order) (w n m : ℕ) (out new : List ℕ) (h t : ℕ) → n ≡ m → new ≡ put out h (o.lay w n) → new ≡ put (put out h (o.lay w m)) t []
-head_alone o w n m out new h t e f = f ∙ (ap (λ z. put out h (o.lay w z)) e ∙ sym (put_nil (put out h (o.lay w m)) t))
 
 pub returns : goal.returns
 returns g c =
     let f = found g.S.Scalar.letters g.S.Width.Primitive.SIZE g.S.Scalar.passes c.args.sheet.now c.args.at.now c.requires.next c.requires.found in
     record {
-      bytes = head_alone g.E.Endian.order g.S.Width.Primitive.SIZE (g.S.Width.Primitive.value c.take_back-n.result) _ c.args.out.now c.lay.new.out c.args.head c.args.tail (c.take_back-n.ensures.value ∙ sym f.value) c.lay.ensures.bytes;
+      bytes = head-alone (g.E.Endian.order.lay g.S.Width.Primitive.SIZE) (g.S.Width.Primitive.value c.take_back-n.result) _ c.args.out.now c.lay.new.out c.args.head c.args.tail (c.take_back-n.ensures.value ∙ sym f.value) c.lay.ensures.bytes;
       end = refl;
       next = c.requires.found ∙ ap good (let n = f.next in let w = c.SIZE.ensures in let z : c.requires.next ≡ c.args.at.now + 2 + c.SIZE.result = omega arith in z);
     }
