@@ -31,6 +31,7 @@ pub trait Kind {
     fn align(&self) -> usize
         ensures { result ≡ (meaning self.now).align };
 
+    // That an end lies within its sheet, here and in the crates above, is said of the two together: no type of an end holds it.
     // Where the value at a place of a sheet ends, or its first fault.
     fn scan(&self, sheet: &[u8], at: usize) -> Result<usize, Refusal>
         requires { at ≤ length sheet.now }

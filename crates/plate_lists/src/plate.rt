@@ -18,6 +18,7 @@ pub fn plate_of(heap: Global, line: &[u8]) -> Result<Plate<'_>, ListError>
     ensures { TellsPlate result (fields_of line.now) }
 {
     let mut fields = pieces(heap, line, b';')?;
+    // Two fields are known then: a pattern of the slice would have to be matched while the rest is split off.
     if fields.len() < 2 {
         return Err(ListError::NoCast);
     }

@@ -116,6 +116,7 @@ pub fn sheet_of_texts(heap: Global, texts: &[&[u8]]) -> Result<Vec<u8>, ListErro
     sheet_of_slice(heap, texts)
 }
 
+// Two functions, each in the words of what it is handed.
 pub fn sheet_of_lists(heap: Global, lists: &[Vec<&[u8]>]) -> Result<Vec<u8>, ListError>
     ensures { Tells vec_items result (limited (lists_sheet (held_lists lists.now))) }
 {

@@ -102,6 +102,7 @@ impl<'a> Task<'a> {
         let place = match self {
             Task::Kind(name, order, call) => {
                 let request = Request { call, desk, buffer };
+                // An order is a type, so it is chosen here.
                 return match order {
                     Order::Little => named::<LittleEndian>(name, request),
                     Order::Big => named::<BigEndian>(name, request),

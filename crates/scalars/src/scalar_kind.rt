@@ -45,6 +45,7 @@ impl<S: Scalar, E: Endian> Kind for ScalarKind<S, E> {
 
     fn scan(&self, sheet: &[u8], at: usize) -> Result<usize, Refusal> {
         let n = sheet::number::<S::Width>(sheet, at, S::mark())?;
+        // The test stands here and in `shallow`, each with its cause: a function for it is no shorter.
         if !S::valid(S::Width::widen(n)) {
             return Err(Refusal::at(Cause::SheetNotScalar, at));
         }

@@ -11,6 +11,7 @@ use endian::width::{Primitive, Width1, Width4};
 use refusal::{Cause, Refusal};
 use utf8::is_text;
 
+// That what is read lies within the sheet is said of the two together: no type of an answer holds it.
 // Where a mark with so many bytes of its own ends.
 pub fn marked(sheet: &[u8], at: usize, mark: &[u8; 2], own: usize) -> Result<usize, Refusal>
     ensures told { told result ≡ at_place (marked_by mark.now own) sheet.now at }

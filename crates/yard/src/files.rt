@@ -13,6 +13,7 @@ const MIB: usize = 1_048_576;
 // Reading more than this is told as it goes on.
 const LARGE: usize = 16 * MIB;
 
+// The words of refusal 1 by hand, since they name the file. The runtime and a path are two parameters here, as of the library's own calls.
 fn too_long(rt: &HostRuntime, path: &str) -> Error {
     failed(
         rt,
