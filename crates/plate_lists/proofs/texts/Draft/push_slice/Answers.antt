@@ -1,7 +1,5 @@
-use Rattle.std.proofs.Common.{◌++◌, ap, ◌∙◌}
-use Rattle.plate_lists.specs.Lists.{limited}
 use Rattle.plate_lists.proofs.ToldLaws.{tells_error, tells_on}
-use Rattle.plate_lists.proofs.WrittenLaws.{slice_over, row_more, row_over}
+use Rattle.plate_lists.proofs.WrittenLaws.{slice_over}
 use Rattle.plate_lists.proofs.texts.Draft.push_slice.Goals as goal
 
 pub returns-in_err-push_count : goal.returns-in_err-push_count
