@@ -1,19 +1,16 @@
 -- A sheet that is written within the limit, piece after piece. Assumes nothing.
-use Rattle.std.proofs.Common.{◌≡◌, ℕ, ◌+◌, ◌<◌, ◌≤◌, Bool, true, false, leb, List, [], ◌∷◌, ◌++◌, map, length, get_or, drop, sym, refl, ap, ◌∙◌, subst, append_assoc, arith}
+use Rattle.std.proofs.Common.{◌≡◌, ℕ, ◌+◌, ◌<◌, ◌≤◌, Bool, true, false, leb, List, [], ◌∷◌, ◌++◌, map, length, drop, sym, refl, ap, ◌∙◌, arith}
 use Rattle.std.specs.List.{flat_map}
-use Rattle.std.proofs.lemmas.List.{at_drop_more, length-append, length-map}
-use Rattle.std.proofs.lemmas.Bool.{leb-true, leb-false, lt-leb}
+use Rattle.std.proofs.lemmas.List.{length-append, length-map}
+use Rattle.std.proofs.lemmas.Bool.{leb-false, lt-leb}
 use Rattle.format.specs.Places.{limit}
 use Rattle.format.specs.Orders.{low_first}
 use Rattle.format.specs.Answers.{Fault, good, bad, unless}
 use Rattle.format.specs.Sheets.{slice_mark, number_sheet}
-use Rattle.format.proofs.AnswerLaws.{unless-false, unless_parts}
+use Rattle.format.proofs.AnswerLaws.{unless-false}
 use Rattle.plate_lists.specs.Lists.{slice_sheet, limited, counted}
 
 -- which way a test went, by the answer
-good_by : {A : Type 0} (t : Bool) (e : Fault) (x y : A) → good x ≡ unless t (bad e) (good y) → (t ≡ true) × (x ≡ y)
-good_by t e x y h = let p = unless_parts t e (good y) x (sym h) in let q = p.1 in let z : x ≡ y = cc in (p.0, z)
-
 bad_by : {A : Type 0} (t : Bool) (e f : Fault) (y : A) → bad f ≡ unless t (bad e) (good y) → (t ≡ false) × (f ≡ e)
 bad_by true e f y h = let z : ◌≡◌ {A = ℕ} 0 1 = cc in absurd (omega arith)
 bad_by false e f y h = let z : f ≡ e = cc in (refl, z)
@@ -26,24 +23,6 @@ over f bs e h = ap bad e ∙ sym (unless-false (leb (length bs) limit) _ _ (lt-l
 pub record Written (whole sheet rest : List ℕ) : Type 0 where
   pub left : sheet ++ rest ≡ whole
   pub room : length sheet ≤ limit
-
--- one more piece, or none since it would pass the limit, as then does the whole
-module _ (whole sheet piece rest : List ℕ) (h : Written whole sheet (piece ++ rest)) where
-  pub written_more : (s : List ℕ) → good s ≡ limited (sheet ++ piece) → Written whole s rest
-  written_more s e =
-      let p = good_by (leb (length (sheet ++ piece)) limit) _ s (sheet ++ piece) e in
-      record {
-        left = ap (λ bs. bs ++ rest) p.1 ∙ (append_assoc sheet piece rest ∙ h.left);
-        room = subst (λ z. length z ≤ limit) (sym p.1) (leb-true (length (sheet ++ piece)) limit p.0);
-      }
-
-  pub written_over : (f : Fault) → bad f ≡ limited (sheet ++ piece) → bad f ≡ limited whole
-  written_over f e =
-      let p = bad_by (leb (length (sheet ++ piece)) limit) _ f (sheet ++ piece) e in
-      let l = leb-false (length (sheet ++ piece)) limit p.0 in
-      let a = ap length (append_assoc sheet piece rest ∙ h.left) in
-      let b = length-append (sheet ++ piece) rest in
-      over f whole p.1 (omega arith)
 
 -- a mark, the count of what follows, and what follows: a byte at least for each that is counted
 module _ (start mark : List ℕ) (n : ℕ) (row : List ℕ) (two : length mark ≡ 2) (many : n ≤ length row) where
@@ -62,15 +41,6 @@ module _ (start mark : List ℕ) (n : ℕ) (row : List ℕ) (two : length mark �
       let p = bad_by (leb (length start + (6 + n)) limit) _ f (start ++ number_sheet mark 4 n) e in
       let l = leb-false (length start + (6 + n)) limit p.0 in
       over f all p.1 (omega (arith, long))
-
-  module _ (s : List ℕ) (e : good s ≡ counted start mark n) where
-    pub counted-first : Written all s row
-    counted-first =
-        let p = good_by (leb (length start + (6 + n)) limit) _ s (start ++ number_sheet mark 4 n) e in
-        let l = leb-true (length start + (6 + n)) limit p.0 in
-        let a = ap length p.1 ∙ length-append start (number_sheet mark 4 n) in
-        let b = length-append mark (low_first 4 n) in
-        record { left = ap (λ bs. bs ++ row) p.1 ∙ append_assoc start (number_sheet mark 4 n) row; room = omega arith }
 
 pub length_joined : {X : Type 0} (f : X → List ℕ) → ((x : X) → 0 < length (f x)) → (xs : List X) → length xs ≤ length (flat_map f xs)
 length_joined f some [] = omega arith
@@ -99,17 +69,3 @@ module _ {X : Type 0} (g : X → List ℕ) (some : (x : X) → 0 < length (g x))
 
     pub slice_over : (f : Fault) → bad f ≡ counted start slice_mark (length xs) → bad f ≡ limited slice
     slice_over = counted_over start slice_mark (length xs) (flat_map g xs) refl many
-
-    module _ (s : List ℕ) (e : good s ≡ counted start slice_mark (length xs)) where
-      first : Written slice s (flat_map g xs)
-      first = counted-first start slice_mark (length xs) (flat_map g xs) refl many s e
-
-      module _ (sheet : List ℕ) (i : ℕ) (w : RowWritten s sheet i) (d : X) (l : i < length xs) where
-        here : Written (s ++ flat_map g xs) sheet (g (get_or xs i d) ++ flat_map g (drop (i + 1) xs))
-        here = subst (λ bs. Written (s ++ flat_map g xs) sheet bs) (at_drop_more (flat_map g) xs i d l) w
-
-        pub row_more : (t : List ℕ) → good t ≡ limited (sheet ++ g (get_or xs i d)) → RowWritten s t (i + 1)
-        row_more = written_more _ sheet _ _ here
-
-        pub row_over : (f : Fault) → bad f ≡ limited (sheet ++ g (get_or xs i d)) → bad f ≡ limited slice
-        row_over f k = written_over _ sheet _ _ here f k ∙ ap limited first.left
