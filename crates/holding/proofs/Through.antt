@@ -19,7 +19,7 @@ held_parts front m a q s h =
     (x.0, (x.1.0, sym (good-same _ _ x.1.1)))
 
 -- how long the sheet is that is read behind a front of so many bytes
-pub length-held : (front : List ℕ) (k : ℕ) → length front ≡ k → (m : Meaning) (a : List ℕ) (q : ℕ) → inside (both (length_read (m.reading a q)) (λ n. good (min (k + n) 18446744073709551615))) ≡ length_read (held front m a q)
+length-held : (front : List ℕ) (k : ℕ) → length front ≡ k → (m : Meaning) (a : List ℕ) (q : ℕ) → inside (both (length_read (m.reading a q)) (λ n. good (min (k + n) 18446744073709551615))) ≡ length_read (held front m a q)
 length-held front k h m a q = go (m.reading a q) where
   go : (x : Answer (List ℕ)) → inside (both (length_read x) (λ n. good (min (k + n) 18446744073709551615))) ≡ length_read (inside (both x (λ s. good (front ++ s))))
   go (good s) =
@@ -27,6 +27,13 @@ length-held front k h m a q = go (m.reading a q) where
       let e : min (k + min (length s) 18446744073709551615) 18446744073709551615 ≡ min (length (front ++ s)) 18446744073709551615 = omega arith in
       ap good e
   go (bad f) = refl
+
+-- the same by b, which is m as the code has it: x is what the one that is held answers, r what its holder does
+pub behind-deep :
+    (front : List ℕ) (k : ℕ) → length front ≡ k → (m b : Meaning) → b ≡ m → (a : List ℕ) (q : ℕ) (x r : Answer ℕ) → r ≡ inside (both x (λ n. good (min (k + n) 18446744073709551615))) →
+    x ≡ length_read (b.reading a q) → r ≡ length_read (held front m a q)
+behind-deep front k h m b is a q x r e d =
+    e ∙ (ap (λ x. inside (both x (λ n. good (min (k + n) 18446744073709551615)))) d ∙ (length-held front k h b a q ∙ ap (λ z. length_read (held front z a q)) is))
 
 -- what a good answer through a distance says: where it leads, and what is read there
 pub record Reads (m : Meaning) (o : Order) (front : List ℕ) (a : List ℕ) (d : ℕ) (s : List ℕ) : Type 0 where
