@@ -10,6 +10,7 @@ use Rattle.format.specs.Links.{behind}
 use Rattle.format.proofs.AnswerLaws.{at_place-end, at_place_then_bad, inside-good}
 use Rattle.format.proofs.SheetLaws.{marked-end}
 use Rattle.kind.specs.Asked.{value_at, Next}
+use Rattle.refusal.specs.Told.{told}
 use Rattle.refusal.specs.declared.refusal.Refusal.{Refusal}
 use Rattle.std.proofs.lemmas.Result.{IfOk-at_ok}
 
@@ -71,6 +72,17 @@ pub mark-end : (mark : List ℕ) (own : ℕ) (s : List ℕ) (p e : ℕ) → at_p
 mark-end mark own s p e h = let x = at_place-end (marked mark own) s p e h in x.1.1 ∙ ap (λ z. p + z) (marked-end mark own (drop p s) x.0 x.1.0).0
 
 -- the end of what is held is the holder's
-pub within_held : (r x : Result ℕ Refusal) (p q l : ℕ) → p ≤ q → IfOk r (λ n. x ≡ Ok n) → IfOk x (λ e. (q ≤ e) × (e ≤ l)) → IfOk r (λ e. (p ≤ e) × (e ≤ l))
+within_held : (r x : Result ℕ Refusal) (p q l : ℕ) → p ≤ q → IfOk r (λ n. x ≡ Ok n) → IfOk x (λ e. (q ≤ e) × (e ≤ l)) → IfOk r (λ e. (p ≤ e) × (e ≤ l))
 within_held (Err f) x p q l h same w = tt
 within_held (Ok n) x p q l h same w = let y = IfOk-at_ok (λ e. (q ≤ e) × (e ≤ l)) same w in let z = y.0 in (omega arith, y.1)
+
+-- what is held behind a mark is scanned by b, which is m as the code has it: x is what it answers, r what its holder does
+pub held-scan :
+    (mark : List ℕ) (own : ℕ) (m b : Meaning) → b ≡ m → (s : List ℕ) (p e : ℕ) → good e ≡ at_place (marked mark own) s p → (x r : Result ℕ Refusal) →
+    told x ≡ at_place b.scan s e → IfOk x (λ n. (e ≤ n) × (n ≤ length s)) → told r ≡ inside (told x) → IfOk r (λ n. x ≡ Ok n) →
+    (told r ≡ at_place (behind mark own m) s p) × IfOk r (λ n. (p ≤ n) × (n ≤ length s))
+held-scan mark own m b is s p e h x r scanned inner holds same =
+    let place = mark-end mark own s p e (sym h) in (
+      holds ∙ (ap inside (scanned ∙ ap (λ z. at_place z.scan s e) is) ∙ sym (behind-good mark own m s p e (sym h))),
+      within_held r x p e (length s) (omega arith) same inner,
+    )

@@ -4,10 +4,10 @@ use Rattle.std.proofs.lemmas.List.{length-append, take-take, drop-take}
 use Rattle.std.proofs.lemmas.Bool.{eq-eqb, ne_eqb, cases_eq}
 use Rattle.format.specs.Places.{stop, up, part, put, zeros, Bytes}
 use Rattle.format.specs.Orders.{Order, Undoes, number, low_first}
-use Rattle.format.specs.Answers.{good, both, shifted, inside}
+use Rattle.format.specs.Answers.{good, both, shifted}
 use Rattle.format.specs.Sheets.{slice_mark, at_place, marked, any, number_of, number_read}
 use Rattle.format.specs.Meaning.{Meaning, Laws, Keeps, Sits}
-use Rattle.format.specs.Items.{first_of, scan_items, row}
+use Rattle.format.specs.Items.{first_of, row}
 use Rattle.format.specs.Links.{behind, far, linked, Span, slice, slice_at}
 use Rattle.format.proofs.OrderLaws.{width_4, length-low_first}
 use Rattle.format.proofs.AnswerLaws.{unless-true, unless-false, both-good, both_parts, good-same}
@@ -16,7 +16,7 @@ use Rattle.format.proofs.PutLaws.{put-put}
 use Rattle.format.proofs.RowLaws.{row_keeps}
 use Rattle.format.proofs.SheetLaws.{number_read-end, number_of_is, scan_number-any}
 use Rattle.kind.specs.Asked.{value_at, Next, Askable, Foretold, Fillable, filled}
-use Rattle.holding.proofs.Fronts.{Held, held-there, behind-good}
+use Rattle.holding.proofs.Fronts.{Held, held-there}
 use Rattle.holding.proofs.FarFilled.{Room, far_askable, far_foretold, far-room, far_fillable, far-filled}
 use Rattle.holding.proofs.Through.{held_parts}
 use Rattle.holding.proofs.FarAsked.{Reachable, reachable}
@@ -28,11 +28,14 @@ number_front v e h =
     ap number (ap (λ z. take 4 (drop 2 (take z v))) k ∙ (ap (take 4) (drop-take 2 (e - 2) v) ∙ take-take 4 (e - 2) (drop 2 v) (omega arith)))
 
 module _ (m : Meaning) (o : Order) (s : List ℕ) (p : ℕ) where
-  pub slice-scan : (n : ℕ) → number_read slice_mark 4 any s p ≡ good n → at_place (slice m o).scan s p ≡ inside (at_place (scan_items m n) s (p + 6))
+  -- where the mark and the count end, and that the row of that count is what is scanned behind them
+  pub slice-scan : (n : ℕ) → number_read slice_mark 4 any s p ≡ good n → (at_place (marked slice_mark 4) s p ≡ good (p + 6)) × (at_place (slice m o).scan s p ≡ at_place (behind slice_mark 4 (row m n)) s p)
   slice-scan n h =
       let r = number_read-end slice_mark 4 s p any n h in
-      let there : at_place (marked slice_mark 4) s p ≡ good (p + 6) = ap (λ z. shifted p (both z (λ e. good (p + e)))) (sym (scan_number-any slice_mark 4 (drop p s))) ∙ r.0 in
-      ap (λ z. shifted p (both (behind slice_mark 4 (row m z) (drop p s)) (λ e. good (p + e)))) r.2 ∙ behind-good slice_mark 4 (row m n) s p (p + 6) there
+      (
+        ap (λ z. shifted p (both z (λ e. good (p + e)))) (sym (scan_number-any slice_mark 4 (drop p s))) ∙ r.0,
+        ap (λ z. shifted p (both (behind slice_mark 4 (row m z) (drop p s)) (λ e. good (p + e)))) r.2,
+      )
 
   inner : (q : ℕ) → Next (slice m o) s p q → Held slice_mark 4 (row m (number_of 4 (drop p s))) s p q
   inner = held-there slice_mark 4 (row m (number_of 4 (drop p s))) s p
