@@ -20,10 +20,10 @@ joined_inside (good r) p e = let k : p + (e + r) ≡ p + e + r = omega arith in 
 joined_inside (bad f) p e = let k : p + (e + f.place) ≡ p + e + f.place = omega arith in ap (λ z. bad (record { number = f.number; place = z; depth = stop (f.depth + 1) })) k
 
 module _ (mark : List ℕ) (own : ℕ) (m : Meaning) (s : List ℕ) (p : ℕ) where
-  pub behind-bad : (f : Fault) → at_place (marked mark own) s p ≡ bad f → at_place (behind mark own m) s p ≡ bad f
+  behind-bad : (f : Fault) → at_place (marked mark own) s p ≡ bad f → at_place (behind mark own m) s p ≡ bad f
   behind-bad f h = at_place_then_bad (marked mark own) (λ v e. inside (shifted e (both (m.scan (drop e v)) (λ r. good (e + r))))) s p f h
 
-  pub behind-good : (e : ℕ) → at_place (marked mark own) s p ≡ good e → at_place (behind mark own m) s p ≡ inside (at_place m.scan s e)
+  behind-good : (e : ℕ) → at_place (marked mark own) s p ≡ good e → at_place (behind mark own m) s p ≡ inside (at_place m.scan s e)
   behind-good e h =
       let x = at_place-end (marked mark own) s p e h in
       let o = x.0 in
@@ -68,7 +68,7 @@ module _ (mark : List ℕ) (own : ℕ) (m : Meaning) (s : List ℕ) (p : ℕ) wh
         }
 
 -- where the mark ends
-pub mark-end : (mark : List ℕ) (own : ℕ) (s : List ℕ) (p e : ℕ) → at_place (marked mark own) s p ≡ good e → e ≡ p + (2 + own)
+mark-end : (mark : List ℕ) (own : ℕ) (s : List ℕ) (p e : ℕ) → at_place (marked mark own) s p ≡ good e → e ≡ p + (2 + own)
 mark-end mark own s p e h = let x = at_place-end (marked mark own) s p e h in x.1.1 ∙ ap (λ z. p + z) (marked-end mark own (drop p s) x.0 x.1.0).0
 
 -- the end of what is held is the holder's
