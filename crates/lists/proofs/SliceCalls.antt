@@ -19,7 +19,7 @@ use Rattle.kind.specs.Asked.{value_at, Next, Askable, Foretold, Fillable, Copyab
 use Rattle.holding.proofs.Fronts.{Held, held-there}
 use Rattle.holding.proofs.FarFilled.{Room, far_askable, far_foretold, far-room, far_fillable, far-filled}
 use Rattle.holding.proofs.Through.{held_parts, held_copyable, held-copied}
-use Rattle.holding.proofs.FarAsked.{Reachable, reachable}
+use Rattle.holding.proofs.FarAsked.{Reachable, far-tail_asks, reachable}
 use Rattle.refusal.specs.Told.{told_by}
 use Rattle.refusal.specs.declared.refusal.Refusal.{Refusal}
 use Rattle.lists.specs.Spans.{span_of}
@@ -68,15 +68,18 @@ module _ (m : Meaning) (o : Order) (s : List ℕ) (p : ℕ) where
         ap₂ (λ c u. far (o.lay 4 c ++ o.lay 4 (up t m.align - (h + 4))) (row m c) u t) c u ∙
         ap (λ r. far (o.lay 4 n ++ o.lay 4 (up t r.align - (h + 4))) r (value_at r s (p + 6)) t) (sym means)
 
-    module _ (law : Laws m) (bytes : Bytes s) where
-      module _ (t : ℕ) (a : Askable (slice m o) s p t) where
-        pub slice-askable : (z : ℕ) → z ≡ stop (up t b.align + b.size) → Askable b s (p + 6) z
-        slice-askable = far_askable b (keeps law) s (p + 6) a.next t bytes (found a.next a.found)
+    pub slice-tail : Laws m → (t : ℕ) → Askable (slice m o) s p t → (w z : ℕ) → w ≡ b.align → z ≡ b.size → (t ≤ 2147483648) × ((0 < w) × ((w ≤ 4096) × (z ≤ 2147483648)))
+    slice-tail law t a w z = far-tail_asks b (keeps law) t w z a.reached
 
-        pub slice-foretold : (z e w : ℕ) → z ≡ stop (up t b.align + b.size) → Foretold b s (p + 6) z e w → Foretold (slice m o) s p t e (max w 4)
-        slice-foretold z e w h fore at =
-            subst (λ x. (x.end ≡ e) × (x.widest ≡ max w 4)) (sym (laid a.next at t a.found))
-            (far_foretold b (keeps law) s (p + 6) a.next t bytes (found a.next a.found) z e w h fore (o.lay 4 n ++ o.lay 4 (up t b.align - (at + 4))))
+    module _ (law : Laws m) (bytes : Bytes s) where
+      module _ (t : ℕ) (a : Askable (slice m o) s p t) (w z x : ℕ) (from : x ≡ stop (up t w + z)) (e : w ≡ b.align) (g : z ≡ b.size) where
+        pub slice-askable : Askable b s (p + 6) x
+        slice-askable = far_askable b (keeps law) s (p + 6) a.next t bytes (found a.next a.found) w z x from e g
+
+        pub slice-foretold : (end wide widest : ℕ) → widest ≡ max wide 4 → Foretold b s (p + 6) x end wide → Foretold (slice m o) s p t end widest
+        slice-foretold end wide widest most fore at =
+            subst (λ y. (y.end ≡ end) × (y.widest ≡ widest)) (sym (laid a.next at t a.found))
+            (far_foretold b (keeps law) s (p + 6) a.next t bytes (found a.next a.found) w z x from e g end wide widest most fore (o.lay 4 n ++ o.lay 4 (up t b.align - (at + 4))))
 
       module _ (out : List ℕ) (h t : ℕ) (f : Fillable (slice m o) s p out h t) where
         fits : (far (o.lay 4 n ++ o.lay 4 (up t b.align - (h + 4))) b (value_at b s (p + 6)) t).end ≤ length out
@@ -92,12 +95,12 @@ module _ (m : Meaning) (o : Order) (s : List ℕ) (p : ℕ) where
             let c = f.capped in
             reachable b (keeps law) mid (h + 4) t (omega arith) (omega arith) (omega arith) w e
 
-        module _ (q z : ℕ) (e : q ≡ up t b.align) (g : z ≡ b.size) where
+        module _ (q w z : ℕ) (reached : q ≡ up t w) (e : w ≡ b.align) (g : z ≡ b.size) where
           pub slice-fillable : (next : List ℕ) → length next ≡ length out → Fillable b s (p + 6) next q (q + z)
-          slice-fillable = far_fillable b (keeps law) s (p + 6) f.next t bytes (found f.next f.found) (length out) f.capped fits q z e g
+          slice-fillable = far_fillable b (keeps law) s (p + 6) f.next t bytes (found f.next f.found) (length out) f.capped fits q w z reached e g
 
           pub slice-filled :
-              Undoes o → n < 256 ^ 4 → (mid next new : List ℕ) (r : ℕ) → mid ≡ put out h (o.lay 4 n) → next ≡ put (put mid (h + 4) (o.lay 4 (q - (h + 4)))) t (zeros (q - t)) →
+              Undoes o → n < 256 ^ 4 → (mid next new : List ℕ) (r : ℕ) → mid ≡ put out h (o.lay 4 n) → next ≡ put (put mid (h + 4) (o.lay 4 (up t w - (h + 4)))) t (zeros (up t w - t)) →
               new ≡ filled next q (q + z) (b.lay (value_at b s (p + 6)) q (q + z)) → r ≡ (b.lay (value_at b s (p + 6)) q (q + z)).end →
               (new ≡ filled out h t ((slice m o).lay (value_at (slice m o) s p) h t)) × (r ≡ ((slice m o).lay (value_at (slice m o) s p) h t).end)
           slice-filled orders small mid next new r put-mid put_next put-new end =
@@ -109,8 +112,8 @@ module _ (m : Meaning) (o : Order) (s : List ℕ) (p : ℕ) where
               let long = length-append (o.lay 4 n) (o.lay 4 (up t b.align - (h + 4))) in
               let behind-count : h + 4 ≡ h + length (o.lay 4 n) = omega arith in
               let x =
-              far-filled b (keeps law) s (p + 6) f.next t bytes (found f.next f.found) (length out) f.capped fits q z e g out next new h r (λ q. o.lay 4 n ++ o.lay 4 (q - (h + 4))) refl (omega arith)
-              (put_next ∙ ap (λ y. put y t (zeros (q - t))) (ap (λ y. put y (h + 4) (o.lay 4 (q - (h + 4)))) put-mid ∙ put-put out h (o.lay 4 n) (o.lay 4 (q - (h + 4))) (h + 4) (omega arith) behind-count)) put-new end in
+              far-filled b (keeps law) s (p + 6) f.next t bytes (found f.next f.found) (length out) f.capped fits q w z reached e g out next new h r (λ q. o.lay 4 n ++ o.lay 4 (q - (h + 4))) refl (omega arith)
+              (put_next ∙ ap (λ y. put y t (zeros (up t w - t))) (ap (λ y. put y (h + 4) (o.lay 4 (up t w - (h + 4)))) put-mid ∙ put-put out h (o.lay 4 n) (o.lay 4 (up t w - (h + 4))) (h + 4) (omega arith) behind-count)) put-new end in
               let same = sym (laid f.next h t f.found) in
               (x.0 ∙ ap (filled out h t) same, x.1 ∙ ap (λ u. u.end) same)
 
