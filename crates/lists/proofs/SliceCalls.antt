@@ -35,8 +35,7 @@ module _ (m : Meaning) (o : Order) (s : List ℕ) (p : ℕ) where
   -- where the mark and the count end, and that the row of that count is what is scanned behind them
   pub slice-scan : (n : ℕ) → number_read slice_mark 4 any s p ≡ good n → (at_place (marked slice_mark 4) s p ≡ good (p + 6)) × (at_place (slice m o).scan s p ≡ at_place (behind slice_mark 4 (row m n)) s p)
   slice-scan n h =
-      let r = number_read-end slice_mark 4 s p any n h in
-      (
+      let r = number_read-end slice_mark 4 s p any n h in (
         ap (λ z. shifted p (both z (λ e. good (p + e)))) (sym (scan_number-any slice_mark 4 (drop p s))) ∙ r.0,
         ap (λ z. shifted p (both (behind slice_mark 4 (row m z) (drop p s)) (λ e. good (p + e)))) r.2,
       )
