@@ -1,15 +1,10 @@
 use Rattle.std.proofs.Common.{◌+◌, refl, arith}
 use Rattle.format.specs.Sheets.{pointer_mark}
-use Rattle.holding.proofs.Through.{leads, led_copyable, led_copied}
+use Rattle.holding.proofs.Through.{leads, led_copied}
 use Rattle.links.proofs.pointer.RelativePtrKind.copy.Goals as goal
 
 pub led-requires : goal.led-requires
 led-requires g c = (c.requires.seated.within, (c.requires.seated.capped, leads pointer_mark (g.K.Kind.meaning c.args.self.now.item) g.E.Endian.order c.args.archive.now c.args.at c.requires.sheet c.requires.read))
-
-pub copy-requires : goal.copy-requires
-copy-requires g c =
-    led_copyable pointer_mark (g.K.Kind.meaning c.args.self.now.item) _ refl g.E.Endian.order c.args.archive.now c.args.at c.requires.sheet c.requires.read c.led.result c.led.ensures
-    c.put_at.new.out c.args.to (c.args.to + 2) c.requires.seated.capped (omega (arith, c.requires.room, c.put_at.auto.out)) refl
 
 pub returns : goal.returns
 returns g c s h =
