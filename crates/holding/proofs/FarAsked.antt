@@ -1,6 +1,6 @@
 -- What the calls on one distance ask, of a meaning that keeps its laws. Assumes nothing.
-use Rattle.std.proofs.Common.{◌≡◌, ℕ, ◌+◌, ◌<◌, ◌≤◌, List, length, sym, ◌∙◌, subst, ap₂, arith}
-use Rattle.format.specs.Places.{limit, stop, up}
+use Rattle.std.proofs.Common.{◌≡◌, ℕ, ◌+◌, ◌<◌, ◌≤◌, List, length, sym, subst, arith}
+use Rattle.format.specs.Places.{limit, up}
 use Rattle.format.specs.Meaning.{Meaning, Keeps}
 use Rattle.format.proofs.RoundLaws.{alignment_pos, alignment_most}
 
@@ -14,9 +14,6 @@ module _ (m : Meaning) (k : Keeps m) where
       let l = alignment_pos m.align k.power in
       let u = alignment_most m.align k.power in
       (h, (omega arith, (omega arith, omega arith)))
-
-  pub far-tail_is : (t w z x : ℕ) → x ≡ stop (up t w + z) → w ≡ m.align → z ≡ m.size → x ≡ stop (up t m.align + m.size)
-  far-tail_is t w z x h e g = h ∙ ap₂ (λ w z. stop (up t w + z)) e g
 
   pub reachable : (out : List ℕ) (d t : ℕ) → d + 4 ≤ t → up t m.align ≤ length out → length out ≤ limit → (w : ℕ) → w ≡ m.align → Reachable out d t w
   reachable out d t below within capped w e =

@@ -1,5 +1,5 @@
 -- What is laid out and filled in behind one distance. Assumes nothing.
-use Rattle.std.proofs.Common.{◌≡◌, ℕ, ◌+◌, ◌-◌, ◌≤◌, max, List, ◌++◌, length, sym, ap, ◌∙◌, subst, arith}
+use Rattle.std.proofs.Common.{◌≡◌, ℕ, ◌+◌, ◌-◌, ◌≤◌, max, List, ◌++◌, length, sym, ap, ◌∙◌, subst, ap₂, arith}
 use Rattle.std.proofs.lemmas.List.{length-replicate}
 use Rattle.format.specs.Places.{limit, stop, up, zeros, put, Bytes}
 use Rattle.format.specs.Meaning.{Meaning, Keeps}
@@ -15,15 +15,20 @@ module _ (m : Meaning) (k : Keeps m) (s : List ℕ) (p n t : ℕ) (bytes : Bytes
   tail_from : stop (up t m.align + m.size) ≤ (m.lay (value_at m s p) (up t m.align) (stop (up t m.align + m.size))).end
   tail_from = (k.onward (value_at m s p) (up t m.align) (stop (up t m.align + m.size)) (value-belongs m k s p bytes n found) (omega arith)).0
 
-  -- asked only
-  pub far_askable : (z : ℕ) → z ≡ stop (up t m.align + m.size) → Askable m s p z
-  far_askable z e = record { next = n; found = found; reached = omega arith }
+  -- asked only, from x on, as the code has it
+  module _ (w z x : ℕ) (from : x ≡ stop (up t w + z)) (e : w ≡ m.align) (g : z ≡ m.size) where
+    starts : x ≡ stop (up t m.align + m.size)
+    starts = from ∙ ap₂ (λ w z. stop (up t w + z)) e g
 
-  pub far_foretold : (z e w : ℕ) → z ≡ stop (up t m.align + m.size) → Foretold m s p z e w → (head : List ℕ) → ((far head m (value_at m s p) t).end ≡ e) × ((far head m (value_at m s p) t).widest ≡ max w 4)
-  far_foretold z e w h fore head =
-      let x = fore (up t m.align) in
-      let wide : (m.lay (value_at m s p) (up t m.align) (stop (up t m.align + m.size))).widest ≡ w = ap (λ z. (m.lay (value_at m s p) (up t m.align) z).widest) (sym h) ∙ x.1 in
-      (ap (λ z. (m.lay (value_at m s p) (up t m.align) z).end) (sym h) ∙ x.0, omega arith)
+    pub far_askable : Askable m s p x
+    far_askable = let h = starts in record { next = n; found = found; reached = omega arith }
+
+    pub far_foretold : (end wide widest : ℕ) → widest ≡ max wide 4 → Foretold m s p x end wide → (head : List ℕ) → ((far head m (value_at m s p) t).end ≡ end) × ((far head m (value_at m s p) t).widest ≡ widest)
+    far_foretold end wide widest most fore head =
+        let h = starts in
+        let y = fore (up t m.align) in
+        let same : (m.lay (value_at m s p) (up t m.align) (stop (up t m.align + m.size))).widest ≡ wide = ap (λ z. (m.lay (value_at m s p) (up t m.align) z).widest) (sym h) ∙ y.1 in
+        (ap (λ z. (m.lay (value_at m s p) (up t m.align) z).end) (sym h) ∙ y.0, omega arith)
 
   module _ (room : ℕ) (capped : room ≤ limit) (fits : (m.lay (value_at m s p) (up t m.align) (stop (up t m.align + m.size))).end ≤ room) where
     pub record Room : Type 0 where
@@ -76,21 +81,21 @@ module _ (m : Meaning) (k : Keeps m) (s : List ℕ) (p n t : ℕ) (bytes : Bytes
         )
 
     -- where the head is put, and how long it is, as the code has them
-    module _ (q z : ℕ) (e : q ≡ up t m.align) (g : z ≡ m.size) where
-      pub far_within : q + z ≤ room
-      far_within = let w = far-room.within in omega arith
+    module _ (q w z : ℕ) (reached : q ≡ up t w) (aligned : w ≡ m.align) (g : z ≡ m.size) where
+      e : q ≡ up t m.align
+      e = reached ∙ ap (up t) aligned
 
       pub far_fillable : (out : List ℕ) → length out ≡ room → Fillable m s p out q (q + z)
       far_fillable out long =
           subst (λ q. Fillable m s p out q (q + z)) (sym e) (subst (λ z. Fillable m s p out (up t m.align) (up t m.align + z)) (sym g) (fillable out long))
 
       pub far-filled :
-          (first out new : List ℕ) (h r : ℕ) (head : ℕ → List ℕ) → length first ≡ room → h + length (head (up t m.align)) ≤ t → out ≡ put (put first h (head q)) t (zeros (q - t)) →
+          (first out new : List ℕ) (h r : ℕ) (head : ℕ → List ℕ) → length first ≡ room → h + length (head (up t m.align)) ≤ t → out ≡ put (put first h (head (up t w))) t (zeros (up t w - t)) →
           new ≡ filled out q (q + z) (m.lay (value_at m s p) q (q + z)) → r ≡ (m.lay (value_at m s p) q (q + z)).end →
           (new ≡ filled first h t (far (head (up t m.align)) m (value_at m s p) t)) × (r ≡ (far (head (up t m.align)) m (value_at m s p) t).end)
       far-filled first out new h r head long below o f end =
           let v = value_at m s p in
           let x =
-          all_filled first out new h (head (up t m.align)) long below (o ∙ ap (λ q. put (put first h (head q)) t (zeros (q - t))) e)
+          all_filled first out new h (head (up t m.align)) long below (o ∙ ap (λ w. put (put first h (head (up t w))) t (zeros (up t w - t))) aligned)
           (f ∙ (ap (λ q. filled out q (q + z) (m.lay v q (q + z))) e ∙ ap (λ z. filled out (up t m.align) (up t m.align + z) (m.lay v (up t m.align) (up t m.align + z))) g)) in
           (x.0, end ∙ (ap (λ q. (m.lay v q (q + z)).end) e ∙ (ap (λ z. (m.lay v (up t m.align) (up t m.align + z)).end) g ∙ x.1)))

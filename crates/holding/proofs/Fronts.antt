@@ -10,6 +10,7 @@ use Rattle.format.specs.Links.{behind}
 use Rattle.format.proofs.AnswerLaws.{at_place-end, at_place_then_bad, inside-good}
 use Rattle.format.proofs.SheetLaws.{marked-end}
 use Rattle.kind.specs.Asked.{value_at, Next}
+use Rattle.refusal.specs.Told.{told}
 use Rattle.refusal.specs.declared.refusal.Refusal.{Refusal}
 use Rattle.std.proofs.lemmas.Result.{IfOk-at_ok}
 
@@ -19,10 +20,10 @@ joined_inside (good r) p e = let k : p + (e + r) ≡ p + e + r = omega arith in 
 joined_inside (bad f) p e = let k : p + (e + f.place) ≡ p + e + f.place = omega arith in ap (λ z. bad (record { number = f.number; place = z; depth = stop (f.depth + 1) })) k
 
 module _ (mark : List ℕ) (own : ℕ) (m : Meaning) (s : List ℕ) (p : ℕ) where
-  pub behind-bad : (f : Fault) → at_place (marked mark own) s p ≡ bad f → at_place (behind mark own m) s p ≡ bad f
+  behind-bad : (f : Fault) → at_place (marked mark own) s p ≡ bad f → at_place (behind mark own m) s p ≡ bad f
   behind-bad f h = at_place_then_bad (marked mark own) (λ v e. inside (shifted e (both (m.scan (drop e v)) (λ r. good (e + r))))) s p f h
 
-  pub behind-good : (e : ℕ) → at_place (marked mark own) s p ≡ good e → at_place (behind mark own m) s p ≡ inside (at_place m.scan s e)
+  behind-good : (e : ℕ) → at_place (marked mark own) s p ≡ good e → at_place (behind mark own m) s p ≡ inside (at_place m.scan s e)
   behind-good e h =
       let x = at_place-end (marked mark own) s p e h in
       let o = x.0 in
@@ -67,10 +68,21 @@ module _ (mark : List ℕ) (own : ℕ) (m : Meaning) (s : List ℕ) (p : ℕ) wh
         }
 
 -- where the mark ends
-pub mark-end : (mark : List ℕ) (own : ℕ) (s : List ℕ) (p e : ℕ) → at_place (marked mark own) s p ≡ good e → e ≡ p + (2 + own)
+mark-end : (mark : List ℕ) (own : ℕ) (s : List ℕ) (p e : ℕ) → at_place (marked mark own) s p ≡ good e → e ≡ p + (2 + own)
 mark-end mark own s p e h = let x = at_place-end (marked mark own) s p e h in x.1.1 ∙ ap (λ z. p + z) (marked-end mark own (drop p s) x.0 x.1.0).0
 
 -- the end of what is held is the holder's
-pub within_held : (r x : Result ℕ Refusal) (p q l : ℕ) → p ≤ q → IfOk r (λ n. x ≡ Ok n) → IfOk x (λ e. (q ≤ e) × (e ≤ l)) → IfOk r (λ e. (p ≤ e) × (e ≤ l))
+within_held : (r x : Result ℕ Refusal) (p q l : ℕ) → p ≤ q → IfOk r (λ n. x ≡ Ok n) → IfOk x (λ e. (q ≤ e) × (e ≤ l)) → IfOk r (λ e. (p ≤ e) × (e ≤ l))
 within_held (Err f) x p q l h same w = tt
 within_held (Ok n) x p q l h same w = let y = IfOk-at_ok (λ e. (q ≤ e) × (e ≤ l)) same w in let z = y.0 in (omega arith, y.1)
+
+-- what is held behind a mark is scanned by b, which is m as the code has it: x is what it answers, r what its holder does
+pub held-scan :
+    (mark : List ℕ) (own : ℕ) (m b : Meaning) → b ≡ m → (s : List ℕ) (p e : ℕ) → good e ≡ at_place (marked mark own) s p → (x r : Result ℕ Refusal) →
+    told x ≡ at_place b.scan s e → IfOk x (λ n. (e ≤ n) × (n ≤ length s)) → told r ≡ inside (told x) → IfOk r (λ n. x ≡ Ok n) →
+    (told r ≡ at_place (behind mark own m) s p) × IfOk r (λ n. (p ≤ n) × (n ≤ length s))
+held-scan mark own m b is s p e h x r scanned inner holds same =
+    let place = mark-end mark own s p e (sym h) in (
+      holds ∙ (ap inside (scanned ∙ ap (λ z. at_place z.scan s e) is) ∙ sym (behind-good mark own m s p e (sym h))),
+      within_held r x p e (length s) (omega arith) same inner,
+    )

@@ -1,15 +1,9 @@
-use Rattle.std.proofs.Common.{length, sym, ap, ◌∙◌, arith}
-use Rattle.format.specs.Answers.{inside}
-use Rattle.format.specs.Sheets.{far_array_mark, at_place}
+use Rattle.format.specs.Sheets.{far_array_mark}
 use Rattle.format.specs.Items.{row}
-use Rattle.holding.proofs.Fronts.{behind-good, mark-end, within_held}
+use Rattle.holding.proofs.Fronts.{held-scan}
 use Rattle.links.proofs.far_array.ZeroArrayKind.scan.Goals as goal
 
 pub returns : goal.returns
 returns g c =
-    let mark = sym c.in_ok-first.ensures.told in
-    let e = mark-end far_array_mark 0 c.args.sheet.now c.args.at c.in_ok-first.first mark in
-    record {
-      told = c.held.ensures.told ∙ (ap inside (c.scan.ensures.told ∙ ap (λ r. at_place r.scan c.args.sheet.now c.in_ok-first.first) c.row.ensures) ∙ sym (behind-good far_array_mark 0 (row (g.K.Kind.meaning c.args.self.now.item) c.args.self.now.count.value) c.args.sheet.now c.args.at c.in_ok-first.first mark));
-      within = within_held c.held.result c.scan.result c.args.at c.in_ok-first.first (length c.args.sheet.now) (omega arith) c.held.ensures.same c.scan.ensures.within;
-    }
+    let x = held-scan far_array_mark 0 (row (g.K.Kind.meaning c.args.self.now.item) c.args.self.now.count.value) _ c.row.ensures c.args.sheet.now c.args.at c.in_ok-first.first c.in_ok-first.ensures.told c.scan.result c.held.result c.scan.ensures.told c.scan.ensures.within c.held.ensures.told c.held.ensures.same in
+    record { told = x.0; within = x.1 }
