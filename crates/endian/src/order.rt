@@ -17,7 +17,7 @@ pub trait Endian {
         requires { Width (length bytes.old) }
         ensures { number bytes.new ≡ order.take_back bytes.old };
 
-    // The bytes of a number, in this order. One function for each width, since a function of a trait takes no const parameter yet.
+    // The bytes of a number, in this order. One function for each width, since the check cannot state a trait's function with a const parameter yet.
     fn from_native_u8(v: u8) -> [u8; 1]
         ensures { result ≡ order.lay 1 v }
     {

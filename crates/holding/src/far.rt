@@ -16,6 +16,7 @@ pub fn far_tail(tail: usize, size: usize, align: usize) -> usize
     (rounded(tail, align) + size).min(STOP)
 }
 
+// That the output is within the limit, and the alignment within its bounds, stay clauses, here and above: see `distance` and `rounded`.
 // Leads from `at` to the next place of an alignment from `tail` on, with zeros before it, and tells that place.
 pub fn reach<E: Endian>(out: &mut [u8], at: usize, tail: usize, align: usize) -> usize
     requires { (at + 4 ≤ tail) × ((0 < align) × ((align ≤ 4096) × ((up tail align ≤ length out.old) × (length out.old ≤ limit)))) }

@@ -135,6 +135,7 @@ pub enum Line<'a> {
 }
 
 impl<'a> Line<'a> {
+    // By their names, as in `Task::read`: these three are told apart before a task is read.
     pub fn read(words: Words<'a>, desk: &Desk) -> Result<Line<'a>, Trouble> {
         match words.word(0)? {
             "new" => Ok(Line::New(words.number(1)?)),
