@@ -2,21 +2,15 @@
 use Rattle.std.proofs.Common.{◌≡◌, ℕ, zero, suc, List, [], ◌∷◌, ◌++◌, sym, refl, ap, ◌∙◌, append_assoc}
 use Rattle.std.proofs.lemmas.List.{append-nil}
 use Rattle.format.specs.Answers.{Answer, Fault, good, bad, both, inside}
-use Rattle.format.specs.Sheets.{Word, Read, read_at, slice_form, text_form, ended}
+use Rattle.format.specs.Sheets.{Word, Read, read_at, text_form, ended}
 use Rattle.format.proofs.AnswerLaws.{both-good, both-bad}
-use Rattle.plate_lists.specs.Lists.{Texts, with_word, texts_at, count_of, list_words}
+use Rattle.plate_lists.specs.Lists.{Texts, with_word, texts_at, list_words}
 
 -- the answer where ws are the words so far, and n texts are left from p on
 abbrev pub rest : List Word → ℕ → List ℕ → ℕ → Answer (List Word)
 rest ws n s p = both (inside (texts_at n s p)) (λ t. both (ended s t.end) (λ _. good (ws ++ t.words)))
 
 module _ (s : List ℕ) where
-  pub rest_first : (r : Read) (ws : List Word) (n : ℕ) → good r ≡ read_at slice_form s 0 → ws ≡ [] → n ≡ count_of r.word → rest ws n s r.end ≡ list_words s
-  rest_first r ws n e d k = ap (λ z. rest z n s r.end) d ∙ (ap (λ z. rest [] z s r.end) k ∙ sym (both-good (read_at slice_form s 0) r _ (sym e)))
-
-  pub slice-bad : (f : Fault) → bad f ≡ read_at slice_form s 0 → bad f ≡ list_words s
-  slice-bad f e = sym (both-bad (read_at slice_form s 0) f _ (sym e))
-
   module _ (ws : List Word) (m p : ℕ) (whole : rest ws m s p ≡ list_words s) where
     module _ (n : ℕ) (one : m ≡ suc n) where
       -- a text is read, and then the others

@@ -34,7 +34,7 @@ pub struct Request<'a> {
 
 impl Request<'_> {
     // With a kind of one step.
-    pub fn step<K: OneStep>(self, kind: &K) -> Result<Said, Trouble> {
+    pub(crate) fn step<K: OneStep>(self, kind: &K) -> Result<Said, Trouble> {
         let Request { call, desk, buffer } = self;
         let Call::Get(root) = call else {
             return Request { call, desk, buffer }.make(kind);
@@ -47,7 +47,7 @@ impl Request<'_> {
     }
 
     // With any kind; but one step is not for each.
-    pub fn make<K: Kind>(self, kind: &K) -> Result<Said, Trouble> {
+    pub(crate) fn make<K: Kind>(self, kind: &K) -> Result<Said, Trouble> {
         let Request { call, desk, buffer } = self;
         let number = match call {
             Call::Scan(sheet) => kind.scan(sheet.as_slice(), 0)?,

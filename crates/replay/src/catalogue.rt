@@ -139,7 +139,7 @@ impl<P: Part> Part for Layer<P> {
 
 // Some kinds by their whole names, where what holds a leaf stands first here, and last in the name; else a kind of up to three deep. Each is
 // a type that is built for itself, so a table of names chooses it.
-pub fn named<E: Endian>(name: &str, request: Request) -> Result<Said, Trouble> {
+pub(crate) fn named<E: Endian>(name: &str, request: Request) -> Result<Said, Trouble> {
     match name {
         "pp8" => Pointed::<Pointed<Alone>>::run::<_, E>(Number8::<E>::new(), request),
         "ss8" => Sliced::<Sliced<Alone>>::run::<_, E>(Number8::<E>::new(), request),

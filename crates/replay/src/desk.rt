@@ -14,38 +14,38 @@ pub struct Desk {
 }
 
 impl Desk {
-    pub fn new(heap: Global) -> Desk {
+    pub(crate) fn new(heap: Global) -> Desk {
         Desk {
             heap,
             builder: None,
         }
     }
 
-    pub fn filled(&self, room: usize) -> Result<Vec<u8>, AllocError> {
+    pub(crate) fn filled(&self, room: usize) -> Result<Vec<u8>, AllocError> {
         vec![in self.heap; OLD; room]
     }
 
-    pub fn copied(&self, bytes: &[u8]) -> Result<Vec<u8>, AllocError> {
+    pub(crate) fn copied(&self, bytes: &[u8]) -> Result<Vec<u8>, AllocError> {
         bytes.to_vec(self.heap)
     }
 
     // A builder over a new buffer.
-    pub fn open(&mut self, room: usize) -> Result<Vec<u8>, Trouble> {
+    pub(crate) fn open(&mut self, room: usize) -> Result<Vec<u8>, Trouble> {
         let buffer = self.filled(room)?;
         self.builder = Some(ZeroBuilder::new(buffer.as_slice())?);
         Ok(buffer)
     }
 
-    pub fn opened(&self) -> Result<(), Unread> {
+    pub(crate) fn opened(&self) -> Result<(), Unread> {
         self.builder.as_ref().ok_or(Unread::NoBuilder)?;
         Ok(())
     }
 
-    pub fn builder(&mut self) -> Result<&mut ZeroBuilder, Unread> {
+    pub(crate) fn builder(&mut self) -> Result<&mut ZeroBuilder, Unread> {
         self.builder.as_mut().ok_or(Unread::NoBuilder)
     }
 
-    pub fn finish(&mut self, buffer: &[u8]) -> Result<Said, Trouble> {
+    pub(crate) fn finish(&mut self, buffer: &[u8]) -> Result<Said, Trouble> {
         let finished = self.builder.take().ok_or(Unread::NoBuilder)?.finish();
         let end = finished.length.min(buffer.len());
         let archive = self.copied(&buffer[..end])?;

@@ -98,7 +98,7 @@ impl<'a> Task<'a> {
         }
     }
 
-    pub fn run(self, desk: &mut Desk, buffer: &mut [u8]) -> Result<Said, Trouble> {
+    pub(crate) fn run(self, desk: &mut Desk, buffer: &mut [u8]) -> Result<Said, Trouble> {
         let place = match self {
             Task::Kind(name, order, call) => {
                 let request = Request { call, desk, buffer };
@@ -136,7 +136,7 @@ pub enum Line<'a> {
 
 impl<'a> Line<'a> {
     // By their names, as in `Task::read`: these three are told apart before a task is read.
-    pub fn read(words: Words<'a>, desk: &Desk) -> Result<Line<'a>, Trouble> {
+    pub(crate) fn read(words: Words<'a>, desk: &Desk) -> Result<Line<'a>, Trouble> {
         match words.word(0)? {
             "new" => Ok(Line::New(words.number(1)?)),
             "finish" => Ok(Line::Finish),

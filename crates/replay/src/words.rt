@@ -22,29 +22,29 @@ pub struct Words<'a> {
 }
 
 impl<'a> Words<'a> {
-    pub fn new(heap: Global, words: &'a [&'a str]) -> Words<'a> {
+    pub(crate) fn new(heap: Global, words: &'a [&'a str]) -> Words<'a> {
         Words { heap, words }
     }
 
     // All but the first.
-    pub fn rest(self) -> Words<'a> {
+    pub(crate) fn rest(self) -> Words<'a> {
         Words::new(self.heap, self.words.get(1..).unwrap_or(&[]))
     }
 
-    pub fn word(self, i: usize) -> Result<&'a str, Unread> {
+    pub(crate) fn word(self, i: usize) -> Result<&'a str, Unread> {
         self.words.get(i).copied().ok_or(Unread::NoWord)
     }
 
-    pub fn number(self, i: usize) -> Result<usize, Unread> {
+    pub(crate) fn number(self, i: usize) -> Result<usize, Unread> {
         self.word(i)?.parse::<usize>().map_err(|_| Unread::NoNumber)
     }
 
-    pub fn bytes(self, i: usize) -> Result<Vec<u8>, Trouble> {
+    pub(crate) fn bytes(self, i: usize) -> Result<Vec<u8>, Trouble> {
         hexadecimal(self.heap, self.word(i)?)
     }
 
     // An archive behind the place in it.
-    pub fn root(self, bytes: usize) -> Result<Root, Trouble> {
+    pub(crate) fn root(self, bytes: usize) -> Result<Root, Trouble> {
         Ok(Root {
             archive: self.bytes(bytes)?,
             place: self.number(3)?,

@@ -90,7 +90,7 @@ pub struct PerList<T> {
 pub type Sheets = PerList<Vec<u8>>;
 
 impl Sheets {
-    pub fn each(&self) -> [&[u8]; 3] {
+    pub(crate) fn each(&self) -> [&[u8]; 3] {
         [
             self.numbers.as_slice(),
             self.casts.as_slice(),
@@ -124,7 +124,7 @@ fn build<R: Root>(
 }
 
 // The pointers are reserved first, so that they stand at 0, 4 and 8 whatever the lists hold.
-pub fn assemble(buffer: &mut [u8], sheets: &Sheets) -> Result<Assembled, Refusal> {
+pub(crate) fn assemble(buffer: &mut [u8], sheets: &Sheets) -> Result<Assembled, Refusal> {
     let mut builder = ZeroBuilder::new(buffer)?;
     builder.reserve(buffer, &pointer_to::<Numbers>())?;
     builder.reserve(buffer, &pointer_to::<Casts>())?;
@@ -139,7 +139,7 @@ pub fn assemble(buffer: &mut [u8], sheets: &Sheets) -> Result<Assembled, Refusal
 }
 
 // Reads all of one list, and tells its first fault.
-pub fn check<R: Root>(archive: &[u8]) -> Result<usize, Refusal> {
+pub(crate) fn check<R: Root>(archive: &[u8]) -> Result<usize, Refusal> {
     is_valid_deep(&pointer_to::<R>(), archive, R::PLACE)
 }
 
@@ -152,7 +152,7 @@ pub enum CopyError {
 }
 
 // The sheet of one list. A list that shares bytes can have a longer sheet than its archive, so the output grows until it has room.
-pub fn copy<R: Root>(heap: Global, archive: &[u8]) -> Result<Vec<u8>, CopyError> {
+pub(crate) fn copy<R: Root>(heap: Global, archive: &[u8]) -> Result<Vec<u8>, CopyError> {
     let mut room = archive.len();
     // A loop needs an end: doubled so often, no room is larger.
     for _ in 0..usize::BITS {
@@ -191,7 +191,7 @@ impl From<Found<'_>> for Items {
 
 impl Items {
     // The heads, one behind another: a text's is as long as a list's.
-    pub fn heads(self) -> StepBy<Range<usize>> {
+    pub(crate) fn heads(self) -> StepBy<Range<usize>> {
         let size = Text::new().size();
         let end = self
             .place
@@ -201,18 +201,18 @@ impl Items {
 }
 
 // The items of the list behind a root.
-pub fn list<R: Root>(archive: &[u8]) -> Result<Items, Refusal> {
+pub(crate) fn list<R: Root>(archive: &[u8]) -> Result<Items, Refusal> {
     let target = Items::from(get(&pointer_to::<R>(), archive, R::PLACE)?).place;
     Ok(get(&list_of::<R>(), archive, target)?.into())
 }
 
 // The texts of the slice at a place.
-pub fn texts_at(archive: &[u8], place: usize) -> Result<Items, Refusal> {
+pub(crate) fn texts_at(archive: &[u8], place: usize) -> Result<Items, Refusal> {
     Ok(get(&Slice::new(Text::new()), archive, place)?.into())
 }
 
 // The text at a place, which is the part of the archive itself.
-pub fn text_at(archive: &[u8], place: usize) -> Result<&[u8], Refusal> {
+pub(crate) fn text_at(archive: &[u8], place: usize) -> Result<&[u8], Refusal> {
     match get(&Text::new(), archive, place)? {
         Found::Text(part) => Ok(part.bytes),
         _ => Ok(&[]),

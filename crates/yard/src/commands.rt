@@ -83,7 +83,7 @@ fn tell_built(rt: &HostRuntime, count: usize, assembled: &Assembled) -> anyhow::
     Ok(())
 }
 
-pub fn build(rt: &HostRuntime, list: &str, path: &str) -> anyhow::Result<()> {
+pub(crate) fn build(rt: &HostRuntime, list: &str, path: &str) -> anyhow::Result<()> {
     let bytes = read_file(rt, list)?;
     let plates = plates_of(rt, bytes.as_slice())?;
     let count = plates.len();
@@ -109,7 +109,7 @@ fn verify_file(rt: &HostRuntime, path: &str, sheets: &Sheets) -> anyhow::Result<
     verify(rt, archive, sheets)
 }
 
-pub fn check(rt: &HostRuntime, path: &str) -> anyhow::Result<()> {
+pub(crate) fn check(rt: &HostRuntime, path: &str) -> anyhow::Result<()> {
     let bytes = read_file(rt, path)?;
     let archive = Named {
         name: path,
@@ -122,7 +122,7 @@ pub fn check(rt: &HostRuntime, path: &str) -> anyhow::Result<()> {
     Ok(())
 }
 
-pub fn list(rt: &HostRuntime, path: &str) -> anyhow::Result<()> {
+pub(crate) fn list(rt: &HostRuntime, path: &str) -> anyhow::Result<()> {
     let bytes = read_file(rt, path)?;
     let archive = Named {
         name: path,
@@ -133,7 +133,7 @@ pub fn list(rt: &HostRuntime, path: &str) -> anyhow::Result<()> {
 }
 
 // The sheets of the three lists, one behind another, as raw bytes.
-pub fn copy(rt: &HostRuntime, path: &str) -> anyhow::Result<()> {
+pub(crate) fn copy(rt: &HostRuntime, path: &str) -> anyhow::Result<()> {
     let bytes = read_file(rt, path)?;
     let archive = Named {
         name: path,
@@ -151,7 +151,7 @@ pub fn copy(rt: &HostRuntime, path: &str) -> anyhow::Result<()> {
 }
 
 // The whole round in memory, on the list that standard input has; at its end a byte is damaged.
-pub fn round(rt: &HostRuntime) -> anyhow::Result<()> {
+pub(crate) fn round(rt: &HostRuntime) -> anyhow::Result<()> {
     let mut bytes = Vec::new(rt.alloc());
     rt.stdin().read_to_end(&mut bytes)?;
     let plates = plates_of(rt, bytes.as_slice())?;
@@ -182,7 +182,7 @@ fn damage(rt: &HostRuntime, archive: &mut [u8]) -> anyhow::Result<()> {
     Ok(())
 }
 
-pub fn help(rt: &HostRuntime) -> anyhow::Result<()> {
+pub(crate) fn help(rt: &HostRuntime) -> anyhow::Result<()> {
     rt.println("yard build LIST FILE     builds the archive FILE from a plate list")?;
     rt.println(
         "yard check FILE          reads all of an archive, and says what is wrong and where",

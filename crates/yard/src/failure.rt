@@ -2,7 +2,7 @@
 use anyhow::Error;
 use std::fmt::Display;
 
-pub fn failed<W: Display + Drop>(rt: &HostRuntime, why: W, end: &str) -> Error {
+pub(crate) fn failed<W: Display + Drop>(rt: &HostRuntime, why: W, end: &str) -> Error {
     match eprintln!(rt; "yard: {why}") {
         Ok(()) => Error::msg(end),
         Err(error) => error.into(),

@@ -58,7 +58,7 @@ fn read_blocks(rt: &HostRuntime, path: &str, file: &mut File) -> anyhow::Result<
 }
 
 // A file that says that it is over the limit is not read at all, and one that says nothing only so far.
-pub fn read_file(rt: &HostRuntime, path: &str) -> anyhow::Result<Vec<u8>> {
+pub(crate) fn read_file(rt: &HostRuntime, path: &str) -> anyhow::Result<Vec<u8>> {
     let mut file = File::open(rt, path).or_else(|error| {
         eprintln!(rt; "yard: cannot open {path}")?;
         Err(error)
@@ -77,7 +77,7 @@ fn write_through(rt: &HostRuntime, path: &str, bytes: &[u8]) -> anyhow::Result<(
 }
 
 // Under another name beside the file, so that what has the file's name is always whole.
-pub fn write_beside(rt: &HostRuntime, path: &str, bytes: &[u8]) -> anyhow::Result<String> {
+pub(crate) fn write_beside(rt: &HostRuntime, path: &str, bytes: &[u8]) -> anyhow::Result<String> {
     let beside = format!(in rt.alloc(); "{path}.part")?;
     if let Err(error) = write_through(rt, beside.as_str(), bytes) {
         eprintln!(rt; "yard: cannot write {beside}")?;
@@ -88,12 +88,12 @@ pub fn write_beside(rt: &HostRuntime, path: &str, bytes: &[u8]) -> anyhow::Resul
 }
 
 // Takes away what was written beside.
-pub fn give_up(rt: &HostRuntime, beside: &str) {
+pub(crate) fn give_up(rt: &HostRuntime, beside: &str) {
     let _ = fs::remove_file(rt, beside);
 }
 
 // Gives what was written beside its name.
-pub fn put_in_place(rt: &HostRuntime, beside: &str, path: &str) -> anyhow::Result<()> {
+pub(crate) fn put_in_place(rt: &HostRuntime, beside: &str, path: &str) -> anyhow::Result<()> {
     if let Err(error) = fs::rename(rt, beside, path) {
         eprintln!(rt; "yard: cannot rename {beside} to {path}")?;
         give_up(rt, beside);

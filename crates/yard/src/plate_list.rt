@@ -31,7 +31,7 @@ fn plate<'a>(rt: &HostRuntime, line: usize, bytes: &'a [u8]) -> anyhow::Result<P
     })
 }
 
-pub fn plates_of<'a>(rt: &HostRuntime, list: &'a [u8]) -> anyhow::Result<Vec<Plate<'a>>> {
+pub(crate) fn plates_of<'a>(rt: &HostRuntime, list: &'a [u8]) -> anyhow::Result<Vec<Plate<'a>>> {
     let plates: Vec<_> = lines(rt.alloc(), list)?
         .iter()
         .enumerate()
@@ -54,7 +54,7 @@ fn three_sheets(heap: Global, plates: Vec<Plate>) -> Result<Sheets, ListError> {
     })
 }
 
-pub fn sheets_of(rt: &HostRuntime, plates: Vec<Plate>) -> anyhow::Result<Sheets> {
+pub(crate) fn sheets_of(rt: &HostRuntime, plates: Vec<Plate>) -> anyhow::Result<Sheets> {
     three_sheets(rt.alloc(), plates).map_err(|error| {
         failed(
             rt,

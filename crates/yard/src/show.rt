@@ -9,7 +9,7 @@ use std::str::from_utf8;
 pub type Lists = PerList<Items>;
 
 impl Lists {
-    pub fn plates(&self) -> u32 {
+    pub(crate) fn plates(&self) -> u32 {
         self.numbers.count
     }
 }
@@ -21,7 +21,7 @@ pub struct Named<'a> {
     pub bytes: &'a [u8],
 }
 
-pub fn refused<R: Root>(rt: &HostRuntime, name: &str, refusal: Refusal) -> Error {
+pub(crate) fn refused<R: Root>(rt: &HostRuntime, name: &str, refusal: Refusal) -> Error {
     let list = R::NAME;
     failed(
         rt,
@@ -37,7 +37,7 @@ fn checked<R: Root>(rt: &HostRuntime, archive: Named) -> anyhow::Result<Items> {
 }
 
 // Checks all of an archive: each list by itself, and that they are of the same plates.
-pub fn checked_lists(rt: &HostRuntime, archive: Named) -> anyhow::Result<Lists> {
+pub(crate) fn checked_lists(rt: &HostRuntime, archive: Named) -> anyhow::Result<Lists> {
     let lists = PerList {
         numbers: checked::<Numbers>(rt, archive)?,
         casts: checked::<Casts>(rt, archive)?,
@@ -78,7 +78,7 @@ fn print_parts(rt: &HostRuntime, archive: &[u8], place: usize) -> anyhow::Result
 }
 
 // A line a plate.
-pub fn print_lists(rt: &HostRuntime, archive: &[u8], lists: &Lists) -> anyhow::Result<()> {
+pub(crate) fn print_lists(rt: &HostRuntime, archive: &[u8], lists: &Lists) -> anyhow::Result<()> {
     let texts = lists.numbers.heads().zip(lists.casts.heads());
     for (index, ((number, cast), parts)) in texts.zip(lists.parts.heads()).enumerate() {
         print!(rt; "{index:>5}  ")?;

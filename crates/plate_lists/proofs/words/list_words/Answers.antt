@@ -1,24 +1,12 @@
 use Rattle.std.proofs.Common.{◌+◌, ◌-◌, map, ap, ◌∙◌, arith}
-use native.Mathlib.Nat.{sub-zero}
 use Rattle.std.proofs.lemmas.List.{map_push}
 use Rattle.sheet.specs.Words.{word_of, read_of}
 use Rattle.plate_lists.specs.declared.error.ListError.TheVariants.{Memory, Refused}
 use Rattle.plate_lists.proofs.ToldLaws.{tells_error}
-use Rattle.plate_lists.proofs.ReadLaws.{rest_first, slice-bad, rest_more, text-bad, rest_none, end-bad}
+use Rattle.plate_lists.proofs.ReadLaws.{rest_more, text-bad, rest_none, end-bad}
 use Rattle.plate_lists.proofs.BackLaws.{reads_back}
 use Rattle.plate_lists.proofs.KindLaws.{scans_as_kind}
 use Rattle.plate_lists.proofs.words.list_words.Goals as goal
-
-pub returns-in_err-slice : goal.returns-in_err-slice
-returns-in_err-slice c = record {
-  told = tells_error _ _ _ (Refused c.in_err-slice.field-0.0) c.from_residual.ensures.1 (slice-bad c.args.sheet.now _ c.in_err-slice.ensures);
-  back = reads_back c.args.sheet.now;
-  kind = scans_as_kind c.args.sheet.now;
-}
-
-pub loop-init : goal.loop-init
-loop-init c =
-    rest_first c.args.sheet.now (read_of c.in_ok-slice.slice) _ _ c.in_ok-slice.ensures (ap (map word_of) c.new-words.ensures.items) (sub-zero c.followers-end.result ∙ c.followers-end.ensures)
 
 pub returns-in_err-text : goal.returns-in_err-text
 returns-in_err-text c = record {
