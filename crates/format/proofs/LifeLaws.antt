@@ -8,12 +8,43 @@ use Rattle.format.specs.Answers.{Answer, Fault, good, bad, fault, unless}
 use Rattle.format.specs.Meaning.{Meaning, Placed, Laws}
 use Rattle.format.specs.Archive.{rooted, sheet_at, pour, Copied}
 use Rattle.format.specs.Builder.{Builder, new, finish, Call, build, Change, change, done}
-use Rattle.format.specs.Life.{Event, own, other, call_of, Stage, met, after, lived, archive, Handed, Lawful, Life, Writes, Spared, Readable, Everywhere, LeftReadable, answers, if_good, accepted, goods, Alike, SameAgain, Leaves, LivesWell}
+use Rattle.format.specs.Life.{Event, own, other, call_of, Stage, met, after, lived, Handed, Lawful, Life, Writes, Spared, Readable, answers, if_good, accepted, goods, Leaves, LivesWell}
 use Rattle.format.proofs.ByteLists.{length-put}
 use Rattle.format.proofs.AnswerLaws.{unless-true, unless-false, unless_parts, both-good, good-same}
 use Rattle.format.proofs.PlaceLaws.{split_holds, holds_left, holds_right, holds_longer, holds_at}
 use Rattle.format.proofs.RoundLaws.{same-mod}
 use Rattle.format.proofs.BuilderLaws.{holds_put, take_put, Sound, Fit, Built, build_built, built_end, change_fit, roomy, change-more}
+
+-- the archive at a stage
+abbrev pub archive : Stage → List ℕ
+archive s = take s.builder.used s.buffer
+
+-- in the archive itself, and whatever bytes are put behind it and, in a multiple of its alignment, before it
+pub record Everywhere (m : Meaning) (v : List ℕ) (s : Stage) (p : ℕ) : Type 0 where
+  pub here : Readable m v (archive s) p
+  pub moved :
+      (before behind : List ℕ) → length before % (finish s.builder).alignment ≡ 0 → length (before ++ archive s ++ behind) ≤ limit → Readable m v (before ++ archive s ++ behind) (length before + p)
+
+-- each accepted build's record that no later accepted write fell upon
+abbrev pub LeftReadable : Type 0
+LeftReadable =
+    (buf : List ℕ) (b : Builder) (earlier later : List Event) (m : Meaning) (v : List ℕ) (p : ℕ) →
+    (let s = lived (record { builder = b; buffer = buf }) earlier in
+    let t = after (own (build m v)) s in
+    new buf ≡ good b → Life (length buf) (earlier ++ (own (build m v) ∷ later)) →
+    (met (own (build m v)) s).answer ≡ good p → Spared p t.builder.used t later →
+    Everywhere m v (lived t later) p)
+
+-- with the refused events left out, and any buffer as long or longer, the same life gives the same
+pub record Alike (s t : Stage) (es : List Event) : Type 0 where
+  pub answers : goods (answers s es) ≡ answers t (accepted s es)
+  pub archive : archive (lived s es) ≡ archive (lived t (accepted s es))
+  pub finish : finish (lived s es).builder ≡ finish (lived t (accepted s es)).builder
+
+abbrev pub SameAgain : Type 0
+SameAgain =
+    (buf wide : List ℕ) (b c : Builder) (es : List Event) → new buf ≡ good b → new wide ≡ good c → length buf ≤ length wide → Life (length buf) es →
+    Alike (record { builder = b; buffer = buf }) (record { builder = c; buffer = wide }) es
 
 -- a stage as lives have it, in a buffer of so many bytes
 pub record Ready (room : ℕ) (s : Stage) : Type 0 where

@@ -4,9 +4,9 @@ use Rattle.format.specs.Places.{limit}
 use Rattle.format.specs.Orders.{Order}
 use Rattle.format.specs.Answers.{Answer, good, bad, fault, unless, both}
 use Rattle.format.specs.Meaning.{Meaning, sits}
-use Rattle.format.specs.Texts.{Part, text_at, text_kind, inline_at, inline_kind}
+use Rattle.format.specs.Texts.{Part, text_at, inline_at}
 use Rattle.format.specs.Items.{row}
-use Rattle.format.specs.Links.{linked, pointer, far_array, Span, slice_at, slice}
+use Rattle.format.specs.Links.{linked, Span, slice_at}
 
 -- a root that sits in an archive within the limit
 abbrev pub rooted : Meaning → List ℕ → ℕ → Answer ℕ
@@ -21,24 +21,6 @@ sheet_at m a p = both (rooted m a p) (λ _. m.reading a p)
 
 abbrev pub is_valid_deep : Meaning → List ℕ → ℕ → Answer ℕ
 is_valid_deep m a p = both (sheet_at m a p) (λ _. good p)
-
--- one step from a root: the place of a pointer's or a far array's target
-abbrev pub get_pointer : Meaning → Order → List ℕ → ℕ → Answer ℕ
-get_pointer m o a p = both (rooted (pointer m o) a p) (λ _. linked m o a p)
-
-abbrev pub get_far_array : ℕ → Meaning → Order → List ℕ → ℕ → Answer ℕ
-get_far_array n m o a p = both (rooted (far_array n m o) a p) (λ _. linked (row m n) o a p)
-
--- the place and the count of a slice's items
-abbrev pub get_slice : Meaning → Order → List ℕ → ℕ → Answer Span
-get_slice m o a p = both (rooted (slice m o) a p) (λ _. slice_at m o a p)
-
--- the part of the archive that is a text
-abbrev pub get_text : Order → List ℕ → ℕ → Answer Part
-get_text o a p = both (rooted (text_kind o) a p) (λ _. text_at o a p)
-
-abbrev pub get_inline_text : ℕ → Order → List ℕ → ℕ → Answer Part
-get_inline_text c o a p = both (rooted (inline_kind c o) a p) (λ _. inline_at c o a p)
 
 -- what one step from a head finds: the place of a target, items, or a text
 pub data Found : Type 0 where

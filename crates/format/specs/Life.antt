@@ -32,9 +32,6 @@ abbrev pub lived : Stage → List Event → Stage
 lived s [] = s
 lived s (e ∷ es) = lived (after e s) es
 
-abbrev pub archive : Stage → List ℕ
-archive s = take s.builder.used s.buffer
-
 -- another buffer has another length, every kind keeps the laws, and a sheet is bytes
 abbrev pub Handed : ℕ → Event → Type 0
 Handed room (own c) = Unit {0}
@@ -73,22 +70,6 @@ pub record Readable (m : Meaning) (v : List ℕ) (a : List ℕ) (p : ℕ) : Type
   pub deep : is_valid_deep m a p ≡ good p
   pub copied : (out : List ℕ) → length (m.kept v) ≤ length out → copy_out m a p out ≡ record { answer = good (length (m.kept v)); output = m.kept v ++ drop (length (m.kept v)) out }
 
--- in the archive itself, and whatever bytes are put behind it and, in a multiple of its alignment, before it
-pub record Everywhere (m : Meaning) (v : List ℕ) (s : Stage) (p : ℕ) : Type 0 where
-  pub here : Readable m v (archive s) p
-  pub moved :
-      (before behind : List ℕ) → length before % (finish s.builder).alignment ≡ 0 → length (before ++ archive s ++ behind) ≤ limit → Readable m v (before ++ archive s ++ behind) (length before + p)
-
--- each accepted build's record that no later accepted write fell upon
-abbrev pub LeftReadable : Type 0
-LeftReadable =
-    (buf : List ℕ) (b : Builder) (earlier later : List Event) (m : Meaning) (v : List ℕ) (p : ℕ) →
-    (let s = lived (record { builder = b; buffer = buf }) earlier in
-    let t = after (own (build m v)) s in
-    new buf ≡ good b → Life (length buf) (earlier ++ (own (build m v) ∷ later)) →
-    (met (own (build m v)) s).answer ≡ good p → Spared p t.builder.used t later →
-    Everywhere m v (lived t later) p)
-
 abbrev pub answers : Stage → List Event → List (Answer ℕ)
 answers s [] = []
 answers s (e ∷ es) = (met e s).answer ∷ answers (after e s) es
@@ -105,17 +86,6 @@ accepted s (e ∷ es) = if_good (met e s).answer e (accepted (after e s) es)
 abbrev pub goods : List (Answer ℕ) → List (Answer ℕ)
 goods [] = []
 goods (a ∷ as') = if_good a a (goods as')
-
--- with the refused events left out, and any buffer as long or longer, the same life gives the same
-pub record Alike (s t : Stage) (es : List Event) : Type 0 where
-  pub answers : goods (answers s es) ≡ answers t (accepted s es)
-  pub archive : archive (lived s es) ≡ archive (lived t (accepted s es))
-  pub finish : finish (lived s es).builder ≡ finish (lived t (accepted s es)).builder
-
-abbrev pub SameAgain : Type 0
-SameAgain =
-    (buf wide : List ℕ) (b c : Builder) (es : List Event) → new buf ≡ good b → new wide ≡ good c → length buf ≤ length wide → Life (length buf) es →
-    Alike (record { builder = b; buffer = buf }) (record { builder = c; buffer = wide }) es
 
 -- in an archive itself, and whatever bytes are put behind it and, in a multiple of an alignment, before it
 pub record Anywhere (m : Meaning) (v : List ℕ) (a : List ℕ) (alignment p : ℕ) : Type 0 where

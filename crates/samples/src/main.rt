@@ -2,7 +2,7 @@
 #![tactic(auto)]
 
 ghost use Rattle.std.specs.Prelude.{◌≡◌, ◌≤◌};
-ghost use Rattle.format.specs.Samples.{Worked, Stepped};
+ghost use Rattle.format.specs.Samples.{Worked};
 
 use archive::{is_valid, is_valid_deep};
 use endian::order::{BigEndian, Endian, LittleEndian};
@@ -20,10 +20,9 @@ use utf8::is_text;
 // The worked samples hold of the definitions. How many facts they are.
 pub fn worked_samples() -> u8
     ensures facts { Worked }
-    ensures count { result ≡ 19 }
-    ensures steps { Stepped }
+    ensures count { result ≡ 25 }
 {
-    19
+    25
 }
 
 // The byte that two hexadecimal digits write; small letters are none.

@@ -27,7 +27,7 @@ fn text_part(archive: &[u8], head: usize, place: usize, count: usize) -> Result<
 
 // That a part lies within its archive is said of the two together, so no type of the part holds it.
 // The text of the head at a place. One of no bytes is found behind its length, and its distance is ignored.
-pub fn text_at<E: Endian>(archive: &[u8], at: usize) -> Result<Part<'_>, Refusal>
+pub(crate) fn text_at<E: Endian>(archive: &[u8], at: usize) -> Result<Part<'_>, Refusal>
     requires { (at + 8 ≤ length archive.now) × (length archive.now ≤ limit) }
     ensures told { told_by part_of result ≡ text_at E.Endian.order archive.now at }
     ensures within { IfOk result (λ x. x.place + length x.bytes.now ≤ length archive.now) }
@@ -45,7 +45,7 @@ pub fn text_at<E: Endian>(archive: &[u8], at: usize) -> Result<Part<'_>, Refusal
 }
 
 // The inline text of the head at a place. A length above the capacity reads as the capacity.
-pub fn inline_at<E: Endian>(archive: &[u8], at: usize, capacity: usize) -> Result<Part<'_>, Refusal>
+pub(crate) fn inline_at<E: Endian>(archive: &[u8], at: usize, capacity: usize) -> Result<Part<'_>, Refusal>
     requires { at + 4 + capacity ≤ length archive.now }
     ensures told { told_by part_of result ≡ inline_at_by capacity E.Endian.order archive.now at }
     ensures within { IfOk result (λ x. x.place + length x.bytes.now ≤ length archive.now) }
