@@ -307,6 +307,8 @@ def parse(line, order):
     if c and c in "ira":
         n, rest = rest.split(".", 1)
         n = int(n)
+        if not 1 <= n <= 65535:
+            raise Refused(7)
         if c == "i":
             return Inline(n, order), rest
         k, rest = parse(rest, order)

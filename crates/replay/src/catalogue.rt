@@ -14,6 +14,12 @@ use texts::{ZeroStr, ZeroString};
 // The most items that an array may have: a const argument has to be a constant's name, and `kind` keeps its own to itself.
 const MOST: u32 = 65_535;
 
+// One more, which no array may have.
+const OVER: u32 = 65_536;
+
+// So many inline texts of the largest capacity are longer than any archive, though a sheet of them need not be.
+const MANY: u32 = 32_767;
+
 type Number1<E> = ScalarKind<Number<Width1>, E>;
 
 type Number2<E> = ScalarKind<Number<Width2>, E>;
@@ -80,6 +86,9 @@ impl<H: Hold, const COUNT: u32> Hold for Arrayed<H, COUNT> {
         H::run::<_, E>(Array::new(kind, COUNT)?, request)
     }
 }
+
+// Arrays of arrays whose true size is past 2^64.
+type Vast<H> = Arrayed<Arrayed<Arrayed<Arrayed<H, MOST>, MOST>, MOST>, MOST>;
 
 // What a part of a name stands for, held by what the name has before it.
 trait Part {
@@ -149,6 +158,21 @@ pub(crate) fn named<E: Endian>(name: &str, request: Request) -> Result<Said, Tro
         "sr65535.r65535.8" => {
             Arrayed::<Arrayed<Sliced<Alone>, MOST>, MOST>::run::<_, E>(Number8::<E>::new(), request)
         }
+        "r65535.r65535.r65535.r65535.8" => Vast::<Alone>::run::<_, E>(Number8::<E>::new(), request),
+        "pr65535.r65535.r65535.r65535.8" => {
+            Vast::<Pointed<Alone>>::run::<_, E>(Number8::<E>::new(), request)
+        }
+        "sr65535.r65535.r65535.r65535.8" => {
+            Vast::<Sliced<Alone>>::run::<_, E>(Number8::<E>::new(), request)
+        }
+        "r32767.i65535." => {
+            Arrayed::<Alone, MANY>::run::<_, E>(ZeroString::<E>::new(MOST as usize)?, request)
+        }
+        "r0.1" => Arrayed::<Alone, 0>::run::<_, E>(Number1::<E>::new(), request),
+        "a65536.1" => Far::<Alone, OVER>::run::<_, E>(Number1::<E>::new(), request),
+        "i0." => Alone::run_step::<_, E>(ZeroString::<E>::new(0)?, request),
+        "i4." => Alone::run_step::<_, E>(ZeroString::<E>::new(4)?, request),
+        "r2.pb" => Pointed::<Arrayed<Alone, 2>>::run::<_, E>(Truths::<E>::new(), request),
         "ppp1" => Pointed::<Pointed<Pointed<Alone>>>::run::<_, E>(Number1::<E>::new(), request),
         "sss2" => Sliced::<Sliced<Sliced<Alone>>>::run::<_, E>(Number2::<E>::new(), request),
         "spsb" => Sliced::<Pointed<Sliced<Alone>>>::run::<_, E>(Truths::<E>::new(), request),
