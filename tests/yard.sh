@@ -61,6 +61,10 @@ printf 'P1;C8;R4\n' >one.txt
 accepts "an archive of one plate is built" "78 bytes, alignment 4" build one.txt one.plates
 [ "$(od -An -v -tx1 one.plates | tr -d ' \n')" = 0c0000001c0000002c000000010000000400000002000000040000005031000001000000040000000200000004000000433800000100000004000000010000000400000002000000040000005234 ]
 check "its bytes are those of the document" $?
+printf 'P1;C8;R4;R5\nP10;C8\n' >two.txt
+accepts "an archive of two plates is built" "116 bytes, alignment 4" build two.txt two.plates
+[ "$(od -An -v -tx1 two.plates | tr -d ' \n')" = 0c00000028000000400000000200000004000000020000000c000000030000000600000050315031300000000200000004000000020000000c0000000200000006000000433843380200000004000000020000000c0000000000000018000000020000000c000000020000000600000052345235 ]
+check "the bytes of two plates are those of the document" $?
 
 cp one.plates damaged
 byte 76 FF damaged
