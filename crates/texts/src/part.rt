@@ -45,7 +45,11 @@ pub(crate) fn text_at<E: Endian>(archive: &[u8], at: usize) -> Result<Part<'_>, 
 }
 
 // The inline text of the head at a place. A length above the capacity reads as the capacity.
-pub(crate) fn inline_at<E: Endian>(archive: &[u8], at: usize, capacity: usize) -> Result<Part<'_>, Refusal>
+pub(crate) fn inline_at<E: Endian>(
+    archive: &[u8],
+    at: usize,
+    capacity: usize,
+) -> Result<Part<'_>, Refusal>
     requires { at + 4 + capacity ≤ length archive.now }
     ensures told { told_by part_of result ≡ inline_at_by capacity E.Endian.order archive.now at }
     ensures within { IfOk result (λ x. x.place + length x.bytes.now ≤ length archive.now) }
