@@ -16,8 +16,7 @@ pub struct Name<'a> {
 // Makes a call with the kind of a name; the order is asked for first.
 pub(crate) fn made<U: Use<Answer = Outcome>>(name: Name, call: U) -> Outcome {
     let order = Order::named(name.order).ok_or(NotMade::NoOrder)?;
-    let kind = str::from_utf8(name.kind).map_err(|_| NotMade::NoKind)?;
-    with_kind(kind, order, call).ok_or(NotMade::NoKind)?
+    with_kind(name.kind, order, call).ok_or(NotMade::NoKind)?
 }
 
 pub(crate) fn asked<U: Use<Answer = Outcome>>(kind: &[u8], order: u8, call: U) -> Answer {

@@ -90,7 +90,7 @@ impl<'a> Task<'a> {
         let place = match self {
             Task::Kind(name, order, call) => {
                 let request = Request { call, desk, buffer };
-                return with_kind(name, order, request).ok_or(Unread::NoKind)?;
+                return with_kind(name.as_bytes(), order, request).ok_or(Unread::NoKind)?;
             }
             Task::Align(alignment) => desk.builder()?.align(buffer, alignment)?,
             Task::ReserveBytes { count, alignment } => {
