@@ -1,9 +1,10 @@
-// Gachullpi for C and for other languages that call C: the calls on sheets and archives, and the whole life of a builder, over the catalogue
-// of kinds. docs/FORMAT.md says what the bytes are, docs/REFUSALS.md what is refused and how, docs/C.md how to link.
+// Gachullpi for C and for other languages that call C: the calls on sheets and archives, and the whole life of a builder, over the
+// catalogue of kinds. docs/FORMAT.md says what the bytes are, docs/REFUSALS.md what is refused and how, docs/C.md how to link.
 //
-// What is asked of the caller: each pointer leads to as many bytes, or answers, as the length behind it tells, is not null even where the
-// length is 0, and nothing that is written overlaps anything else of the call. Nothing else is asked: each call answers, whatever the bytes,
-// names and numbers are. No call allocates, keeps a pointer, or has a state of its own, so any number of threads may call at once.
+// What is asked of the caller: each pointer leads to as many bytes, or answers, as the length behind it tells, is not null even where
+// the length is 0, and nothing that is written overlaps anything else of the call. Nothing else is asked: each call answers, whatever
+// the bytes, names and numbers are. Sheets, archives and buffers may stand at any address: what is aligned are places in them. No call
+// allocates, keeps a pointer, or has a state of its own, so any number of threads may call at once.
 #ifndef GACHULLPI_H
 #define GACHULLPI_H
 
@@ -33,8 +34,8 @@ enum gachullpi_not_made {
     GACHULLPI_NO_ANSWER = 104 // no room for the answer of a life's next call
 };
 
-// A kind is named as the program `replay` names it, by ASCII letters and no end mark: `t` is a text, `st` a slice of texts, `psst` a pointer to a
-// slice of slices of texts. docs/REPLAY.md has the whole catalogue. A byte order is 'l', little, or 'b', big.
+// A kind is named as the program `replay` names it, by ASCII letters and no end mark: `t` is a text, `st` a slice of texts, `psst` a
+// pointer to a slice of slices of texts. docs/REPLAY.md has the whole catalogue. A byte order is 'l', little, or 'b', big.
 
 // Whether bytes are UTF-8 text.
 bool gachullpi_is_text(const uint8_t *bytes, size_t length);
@@ -50,18 +51,19 @@ struct gachullpi_answer gachullpi_is_valid(const uint8_t *kind, size_t kind_leng
 struct gachullpi_answer gachullpi_is_valid_deep(const uint8_t *kind, size_t kind_length, uint8_t order, const uint8_t *archive,
                                                 size_t archive_length, size_t place);
 
-// One step from the head at a place of an archive. Value: the place where a pointer or a far array leads, where the items of a slice begin, or
-// where the bytes of a text stand in the archive. Count: how many items a slice, or bytes a text has; 0 for a pointer and a far array.
+// One step from the head at a place of an archive. Value: the place where a pointer or a far array leads, where the items of a slice
+// begin, or where the bytes of a text stand in the archive. Count: how many items a slice, or bytes a text has; 0 for a pointer and a
+// far array.
 struct gachullpi_answer gachullpi_get(const uint8_t *kind, size_t kind_length, uint8_t order, const uint8_t *archive,
                                       size_t archive_length, size_t place);
 
-// Puts the sheet of the value at a place of an archive at the front of an output. Value: the sheet's length. The rest of the output stays as it
-// was, and where the call is refused all of it does.
+// Puts the sheet of the value at a place of an archive at the front of an output. Value: the sheet's length. The rest of the output
+// stays as it was, and where the call is refused all of it does.
 struct gachullpi_answer gachullpi_copy_out(const uint8_t *kind, size_t kind_length, uint8_t order, const uint8_t *archive,
                                            size_t archive_length, size_t place, uint8_t *output, size_t output_length);
 
-// Runs the life of one builder over a buffer, from its birth to `finish`, or to the end of its calls. They stand in `calls` one behind another,
-// each of these parts, with no gaps; numbers are of 8 bytes, little end first:
+// Runs the life of one builder over a buffer, from its birth to `finish`, or to the end of its calls. They stand in `calls` one behind
+// another, each of these parts, with no gaps; numbers are of 8 bytes, little end first:
 //
 //     1 byte     which call, as below
 //     1 byte     the byte order, 'l' or 'b'
@@ -82,12 +84,13 @@ struct gachullpi_answer gachullpi_copy_out(const uint8_t *kind, size_t kind_leng
 //     GACHULLPI_BUILD           kind, order, bytes         the place of the head; the bytes are a sheet
 //     GACHULLPI_FINISH          nothing                    the archive's length; count: its alignment
 //
-// A part that a call doesn't take may hold anything. The answer of each call goes into the next of `answers`. A refused call changes nothing, and
-// the next one is made. The archive is the first bytes of the buffer, as many as `finish` tells; bytes behind stay as they were.
+// A part that a call doesn't take may hold anything. The answer of each call goes into the next of `answers`. A refused call changes
+// nothing, and the next one is made. The archive is the first bytes of the buffer, as many as `finish` tells; bytes behind stay as they
+// were.
 //
-// The life itself answers: value, how many calls were made, and count, how many bytes of `calls` they are. It is refused with 1 where the
-// buffer is longer than the limit; then nothing is made. It stops, with GACHULLPI_NO_CALL or GACHULLPI_NO_ANSWER and the place in `calls`, at a
-// call that can't be read or whose answer has no room; value and count then tell what was made before, unlike elsewhere.
+// The life itself answers: value, how many calls were made, and count, how many bytes of `calls` they are. It is refused with 1 where
+// the buffer is longer than the limit; then nothing is made. It stops, with GACHULLPI_NO_CALL or GACHULLPI_NO_ANSWER and the place in
+// `calls`, at a call that can't be read or whose answer has no room; value and count then tell what was made before, unlike elsewhere.
 struct gachullpi_answer gachullpi_life(const uint8_t *calls, size_t calls_length, uint8_t *buffer, size_t buffer_length,
                                        struct gachullpi_answer *answers, size_t answers_count);
 

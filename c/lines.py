@@ -118,10 +118,61 @@ def found(kind, archive, answer):
     return f"{answer.value} {answer.count}" if kind[0] == "s" else str(answer.value)
 
 
+def course(library, calls, room, answers):
+    """A life, as numbers: what it answers, and the answers of its calls."""
+    buffer = ctypes.create_string_buffer(OLD * room, room)
+    told = (Answer * answers)()
+    ends = library.gachullpi_life(*sized(calls), buffer, ctypes.c_size_t(room), told, ctypes.c_size_t(answers))
+    return numbers(ends), [numbers(answer) for answer in told]
+
+
+def numbers(answer):
+    return tuple(getattr(answer, name) for name, _ in Answer._fields_)
+
+
+def edges(library):
+    """What no line of `replay` can say."""
+    number = encoded(["build", "1", "l", "4E3107"])
+    finish = encoded(["finish"])
+    nothing = (0, 0, 0, 0, 0)
+    seen = [
+        # No call, and a life that is not ended.
+        (course(library, b"", 4, 1), ((0, 0, 0, 0, 0), [nothing])),
+        (course(library, number, 4, 1), ((0, 0, 0, 1, len(number)), [(0, 0, 0, 0, 0)])),
+        # What stands behind the end is not read.
+        (course(library, finish + b"\xff", 4, 2), ((0, 0, 0, 1, len(finish)), [(0, 0, 0, 0, 1), nothing])),
+        # No room for an answer.
+        (course(library, number + number, 4, 1), ((104, len(number), 0, 1, len(number)), [nothing])),
+        # An unknown kind and an unknown order are answered, and the next call is made.
+        (course(library, encoded(["reserve", "q", "l"]) + encoded(["reserve", "1", "q"]) + finish, 4, 3)[1], [(100, 0, 0, 0, 0), (101, 0, 0, 0, 0), (0, 0, 0, 0, 1)]),
+        # Neither the name of a kind nor its order has to be text.
+        (numbers(library.gachullpi_scan(*sized(b"\xff"), *sized(b"N1\7"))), (100, 0, 0, 0, 0)),
+        (numbers(library.gachullpi_get(*sized(b"1"), ctypes.c_uint8(0), *sized(b"\7"), ctypes.c_size_t(0))), (101, 0, 0, 0, 0)),
+        (numbers(library.gachullpi_get(*sized(b"1"), ctypes.c_uint8(108), *sized(b"\7"), ctypes.c_size_t(0))), (102, 0, 0, 0, 0)),
+        # Text, and no text.
+        (library.gachullpi_is_text(*sized("Å7".encode())), True),
+        (library.gachullpi_is_text(*sized(b"\xc3")), False),
+        # The largest numbers.
+        (course(library, number[:6] + b"\xff" * 24, 4, 1)[0], (103, 0, 0, 0, 0)),
+        (course(library, encoded(["reserve_bytes", str(2**64 - 1), "1"]), 4, 1)[1], [(4, 0, 0, 0, 0)]),
+    ]
+    # A call that is cut, or has no number of a call.
+    seen += [(course(library, finish[:cut], 4, 1)[0], (103, 0, 0, 0, 0)) for cut in range(1, len(finish))]
+    seen += [(course(library, bytes([call]) + finish[1:], 4, 1)[0], (103, 0, 0, 0, 0)) for call in (0, 9, 255)]
+    wrong = [(n, got, wanted) for n, (got, wanted) in enumerate(seen) if got != wanted]
+    for n, got, wanted in wrong:
+        print(f"edge {n}: expected {wanted}, answered {got}")
+    return len(seen), not wrong
+
+
 def main():
     library = ctypes.CDLL(sys.argv[1])
     for name in ("scan", "is_valid", "is_valid_deep", "get", "copy_out", "life"):
         getattr(library, "gachullpi_" + name).restype = Answer
+    library.gachullpi_is_text.restype = ctypes.c_bool
+    tried, right = edges(library)
+    if not right:
+        return 1
     desk = Desk(library)
     answered = left_out = 0
     with open(sys.argv[2]) as lines, open(sys.argv[3]) as answers:
@@ -134,7 +185,7 @@ def main():
                 return 1
             else:
                 answered += 1
-    print(f"{answered} lines answered as by replay, {left_out} that the library has no call for")
+    print(f"{answered} lines answered as by replay, {left_out} that the library has no call for; {tried} edges as the header has them")
     return 0
 
 

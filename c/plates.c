@@ -1,4 +1,5 @@
-// Opens an archive of plates over the static library: checks its three lists deeply, and prints each plate with its cast and the parts cut from it.
+// Opens an archive of plates over the static library: checks its three lists deeply, and prints each plate with its cast and the parts
+// cut from it.
 //
 //     plates FILE
 //
@@ -132,7 +133,7 @@ static void failed(const char *path, const char *what) {
     exit(1);
 }
 
-// All of a file. The library reads at places that are multiples of an alignment from the first byte on, so any memory will do.
+// All of a file.
 static struct archive opened(const char *path) {
     FILE *file = fopen(path, "rb");
     if (file == NULL) {
