@@ -134,6 +134,7 @@ def edges(library):
     """What no line of `replay` can say."""
     number = encoded(["build", "1", "l", "4E3107"])
     finish = encoded(["finish"])
+    unknown = encoded(["reserve", "q", "l"]) + encoded(["reserve", "1", "q"])
     nothing = (0, 0, 0, 0, 0)
     seen = [
         # No call, and a life that is not ended.
@@ -144,7 +145,7 @@ def edges(library):
         # No room for an answer.
         (course(library, number + number, 4, 1), ((104, len(number), 0, 1, len(number)), [nothing])),
         # An unknown kind and an unknown order are answered, and the next call is made.
-        (course(library, encoded(["reserve", "q", "l"]) + encoded(["reserve", "1", "q"]) + finish, 4, 3)[1], [(100, 0, 0, 0, 0), (101, 0, 0, 0, 0), (0, 0, 0, 0, 1)]),
+        (course(library, unknown + finish, 4, 3)[1], [(100, 0, 0, 0, 0), (101, 0, 0, 0, 0), (0, 0, 0, 0, 1)]),
         # Neither the name of a kind nor its order has to be text.
         (numbers(library.gachullpi_scan(*sized(b"\xff"), *sized(b"N1\7"))), (100, 0, 0, 0, 0)),
         (numbers(library.gachullpi_get(*sized(b"1"), ctypes.c_uint8(0), *sized(b"\7"), ctypes.c_size_t(0))), (101, 0, 0, 0, 0)),
