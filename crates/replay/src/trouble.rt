@@ -1,4 +1,5 @@
 // Why a call gives no answer of its own: it is refused, or it cannot be made.
+use catalogue::Missing;
 use hex::FromHexError;
 use refusal::Refusal;
 use std::alloc::AllocError;
@@ -46,6 +47,15 @@ impl From<FromHexError> for Trouble {
                 Unread::NoDigits.into()
             }
             FromHexError::OutOfMemory => AllocError.into(),
+        }
+    }
+}
+
+impl From<Missing> for Trouble {
+    fn from(missing: Missing) -> Trouble {
+        match missing {
+            Missing::NoKind => Unread::NoKind.into(),
+            Missing::Refused(refusal) => refusal.into(),
         }
     }
 }
