@@ -1,3 +1,4 @@
+pub mod FarCalls
 pub mod Fronts
 pub mod FarAsked
 pub mod FarFilled
