@@ -108,8 +108,7 @@ module _ {w b : Meaning} {s : List ℕ} {p d : ℕ} {head : ℕ → ℕ → List
           let first_long = length-put out h (head h q) (omega arith) in
           let pad_long : length pad ≡ q - t = length-replicate (q - t) 0 in
           let long : length next ≡ length out = ap length padded ∙ (length-put first t pad (omega arith) ∙ first_long) in
-          let head_long = l.keeps.head_long (value_at b s d) q (q + z) (value_placed b l.keeps s d l.bytes next q (q + z) (far_fillable long)) in
-          (
+          let head_long = l.keeps.head_long (value_at b s d) q (q + z) (value_placed b l.keeps s d l.bytes next q (q + z) (far_fillable long)) in (
             put-held ∙
                 (put-put next q x.head x.tail (q + z) (omega arith) (omega arith) ∙
                 (ap (λ y. put y q (x.head ++ x.tail)) padded ∙

@@ -5,10 +5,14 @@ use Rattle.links.proofs.LinkCalls.{far_array_holds}
 use Rattle.links.proofs.far_array.ZeroArrayKind.fill.Goals as goal
 
 pub reach-place-requires : goal.reach-place-requires
-reach-place-requires g c = (c.requires.behind, far_reachable (far_array_holds c.args.self.now.count.value (g.met.K.Kind.lawful c.args.self.now.item) g.met.E.Endian.undoes c.row-row.ensures c.args.sheet.now c.args.at.now (typed_bytes c.args.sheet.now c.type_inv.sheet)) c.requires c.align.ensures c.args.out.now refl)
+reach-place-requires g c =
+    let l = far_array_holds c.args.self.now.count.value (g.met.K.Kind.lawful c.args.self.now.item) g.met.E.Endian.undoes c.row-row.ensures c.args.sheet.now c.args.at.now (typed_bytes c.args.sheet.now c.type_inv.sheet) in
+    (c.requires.behind, far_reachable l c.requires c.align.ensures c.args.out.now refl)
 
 pub fill-requires : goal.fill-requires
-fill-requires g c = far_fillable (far_array_holds c.args.self.now.count.value (g.met.K.Kind.lawful c.args.self.now.item) g.met.E.Endian.undoes c.row-row.ensures c.args.sheet.now c.args.at.now (typed_bytes c.args.sheet.now c.type_inv.sheet)) c.requires c.align.ensures c.size.ensures c.reach-place.ensures.place c.reach-place.auto.out
+fill-requires g c =
+    let l = far_array_holds c.args.self.now.count.value (g.met.K.Kind.lawful c.args.self.now.item) g.met.E.Endian.undoes c.row-row.ensures c.args.sheet.now c.args.at.now (typed_bytes c.args.sheet.now c.type_inv.sheet) in
+    far_fillable l c.requires c.align.ensures c.size.ensures c.reach-place.ensures.place c.reach-place.auto.out
 
 pub returns : goal.returns
 returns g c =

@@ -6,10 +6,14 @@ use Rattle.lists.proofs.SliceCalls.{slice_holds, count_put}
 use Rattle.lists.proofs.slice.ZeroSliceKind.fill.Goals as goal
 
 pub reach-place-requires : goal.reach-place-requires
-reach-place-requires g c = (omega (arith, c.requires.behind), far_reachable (slice_holds (g.met.K.Kind.lawful c.args.self.now.item) g.met.E.Endian.undoes c.take_back-count.result c.row-row.ensures c.args.sheet.now c.args.at.now c.take_back-count.ensures.value (typed_bytes c.args.sheet.now c.type_inv.sheet)) c.requires c.align.ensures c.lay.new.out c.lay.auto.out)
+reach-place-requires g c =
+    let l = slice_holds (g.met.K.Kind.lawful c.args.self.now.item) g.met.E.Endian.undoes c.take_back-count.result c.row-row.ensures c.args.sheet.now c.args.at.now c.take_back-count.ensures.value (typed_bytes c.args.sheet.now c.type_inv.sheet) in
+    (omega (arith, c.requires.behind), far_reachable l c.requires c.align.ensures c.lay.new.out c.lay.auto.out)
 
 pub fill-requires : goal.fill-requires
-fill-requires g c = far_fillable (slice_holds (g.met.K.Kind.lawful c.args.self.now.item) g.met.E.Endian.undoes c.take_back-count.result c.row-row.ensures c.args.sheet.now c.args.at.now c.take_back-count.ensures.value (typed_bytes c.args.sheet.now c.type_inv.sheet)) c.requires c.align.ensures c.size.ensures c.reach-place.ensures.place (c.reach-place.auto.out ∙ c.lay.auto.out)
+fill-requires g c =
+    let l = slice_holds (g.met.K.Kind.lawful c.args.self.now.item) g.met.E.Endian.undoes c.take_back-count.result c.row-row.ensures c.args.sheet.now c.args.at.now c.take_back-count.ensures.value (typed_bytes c.args.sheet.now c.type_inv.sheet) in
+    far_fillable l c.requires c.align.ensures c.size.ensures c.reach-place.ensures.place (c.reach-place.auto.out ∙ c.lay.auto.out)
 
 pub returns : goal.returns
 returns g c =
