@@ -1,4 +1,4 @@
--- A distance behind a mark, and what it leads to, in a sheet. Assumes nothing.
+-- What pointers and far arrays hold by their distance, in a sheet. Assumes nothing.
 use Rattle.std.proofs.Common.{◌≡◌, ℕ, ◌+◌, ◌-◌, List, sym, refl, ap, ◌∙◌, subst}
 use Rattle.format.specs.Places.{up, Bytes}
 use Rattle.format.specs.Orders.{Order, Undoes}
@@ -12,10 +12,10 @@ use Rattle.kind.specs.Asked.{value_at}
 use Rattle.holding.proofs.Fronts.{held-there, held-found}
 use Rattle.holding.proofs.FarCalls.{HeldFar}
 
--- b is the meaning m as the code has it
+-- b is what stands behind the mark, m, as the code has it
 link_holds :
-    (mark : List ℕ) (m b : Meaning) → b ≡ m → (o : Order) → Keeps (link mark m o) → Keeps m → (s : List ℕ) (p : ℕ) → Bytes s → HeldFar (link mark m o) b s p (p + 2) (λ h q. o.lay 4 (q - h))
-link_holds mark m b is o holder k s p bytes = record {
+    (mark : List ℕ) (m b : Meaning) (o : Order) → Keeps (link mark m o) → Keeps m → b ≡ m → (s : List ℕ) (p : ℕ) → Bytes s → HeldFar (link mark m o) b s p (p + 2) (λ h q. o.lay 4 (q - h))
+link_holds mark m b o holder k is s p bytes = record {
   holder = holder;
   keeps = subst Keeps (sym is) k;
   bytes = bytes;
@@ -25,8 +25,8 @@ link_holds mark m b is o holder k s p bytes = record {
 }
 
 pub pointer_holds : {m : Meaning} {o : Order} → Laws m → Undoes o → (s : List ℕ) (p : ℕ) → Bytes s → HeldFar (pointer m o) m s p (p + 2) (λ h q. o.lay 4 (q - h))
-pointer_holds {m} {o} law undoes = link_holds pointer_mark m m refl o (pointer_laws m o law undoes).keeps law.keeps
+pointer_holds {m} {o} law undoes = link_holds pointer_mark m m o (pointer_laws m o law undoes).keeps law.keeps refl
 
 pub far_array_holds :
-    (n : ℕ) {m b : Meaning} {o : Order} → Laws m → Undoes o → b ≡ row m n → (s : List ℕ) (p : ℕ) → Bytes s → HeldFar (far_array n m o) b s p (p + 2) (λ h q. o.lay 4 (q - h))
-far_array_holds n {m} {b} {o} law undoes is = link_holds far_array_mark (row m n) b is o (far_array_laws n m o law undoes).keeps (row_keeps m n law)
+    (n : ℕ) {m b : Meaning} {o : Order} → Laws m → Undoes o → (s : List ℕ) (p : ℕ) → Bytes s → b ≡ row m n → HeldFar (far_array n m o) b s p (p + 2) (λ h q. o.lay 4 (q - h))
+far_array_holds n {m} {b} {o} law undoes s p bytes is = link_holds far_array_mark (row m n) b o (far_array_laws n m o law undoes).keeps (row_keeps m n law) is s p bytes

@@ -42,9 +42,9 @@ module _ (m : Meaning) (o : Order) (s : List ℕ) (p : ℕ) where
 
 -- a slice holds the row of the count that is taken from its sheet; b is the row as the code has it
 pub slice_holds :
-    {m b : Meaning} {o : Order} → Laws m → Undoes o → (n : ℕ) → b ≡ row m n → (s : List ℕ) (p : ℕ) → n ≡ number (part (p + 2) 4 s) → Bytes s →
+    {m b : Meaning} {o : Order} {n : ℕ} → Laws m → Undoes o → (s : List ℕ) (p : ℕ) → Bytes s → n ≡ number (part (p + 2) 4 s) → b ≡ row m n →
     HeldFar (slice m o) b s p (p + 6) (λ h q. o.lay 4 n ++ o.lay 4 (q - (h + 4)))
-slice_holds {m} {b} {o} law undoes n means s p count bytes = record {
+slice_holds {m} {b} {o} {n} law undoes s p bytes count means = record {
   holder = (slice-laws m o law undoes).keeps;
   keeps = subst Keeps (sym means) (row_keeps m n law);
   bytes = bytes;

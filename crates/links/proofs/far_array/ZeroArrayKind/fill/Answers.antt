@@ -6,16 +6,16 @@ use Rattle.links.proofs.far_array.ZeroArrayKind.fill.Goals as goal
 
 pub reach-place-requires : goal.reach-place-requires
 reach-place-requires g c =
-    let l = far_array_holds c.args.self.now.count.value (g.met.K.Kind.lawful c.args.self.now.item) g.met.E.Endian.undoes c.row-row.ensures c.args.sheet.now c.args.at.now (typed_bytes c.args.sheet.now c.type_inv.sheet) in
+    let l = far_array_holds c.args.self.now.count.value (g.met.K.Kind.lawful c.args.self.now.item) g.met.E.Endian.undoes c.args.sheet.now c.args.at.now (typed_bytes c.args.sheet.now c.type_inv.sheet) c.row-row.ensures in
     (c.requires.behind, far_reachable l c.requires c.align.ensures c.args.out.now refl)
 
 pub fill-requires : goal.fill-requires
 fill-requires g c =
-    let l = far_array_holds c.args.self.now.count.value (g.met.K.Kind.lawful c.args.self.now.item) g.met.E.Endian.undoes c.row-row.ensures c.args.sheet.now c.args.at.now (typed_bytes c.args.sheet.now c.type_inv.sheet) in
+    let l = far_array_holds c.args.self.now.count.value (g.met.K.Kind.lawful c.args.self.now.item) g.met.E.Endian.undoes c.args.sheet.now c.args.at.now (typed_bytes c.args.sheet.now c.type_inv.sheet) c.row-row.ensures in
     far_fillable l c.requires c.align.ensures c.size.ensures c.reach-place.ensures.place c.reach-place.auto.out
 
 pub returns : goal.returns
 returns g c =
-    let l = far_array_holds c.args.self.now.count.value (g.met.K.Kind.lawful c.args.self.now.item) g.met.E.Endian.undoes c.row-row.ensures c.args.sheet.now c.args.at.now (typed_bytes c.args.sheet.now c.type_inv.sheet) in
+    let l = far_array_holds c.args.self.now.count.value (g.met.K.Kind.lawful c.args.self.now.item) g.met.E.Endian.undoes c.args.sheet.now c.args.at.now (typed_bytes c.args.sheet.now c.type_inv.sheet) c.row-row.ensures in
     let r = far-filled l c.requires c.align.ensures c.size.ensures c.reach-place.ensures.place c.reach-place.ensures.bytes c.fill.ensures.bytes c.fill.ensures.end in
     record { bytes = r.0; end = r.1; next = far-next l c.requires.found c.fill.ensures.next }
