@@ -1,8 +1,8 @@
 -- What a slice asks of its row, and what it answers by it. Assumes nothing.
-use Rattle.std.proofs.Common.{◌≡◌, ℕ, ◌+◌, ◌-◌, ◌^◌, ◌<◌, ◌≤◌, max, eqb, ◌⊎◌, Result, Ok, List, [], ◌++◌, length, take, drop, sym, refl, ap, ◌∙◌, subst, ap₂, inl, inr, append-nil, arith}
+use Rattle.std.proofs.Common.{◌≡◌, ℕ, ◌+◌, ◌-◌, ◌^◌, ◌<◌, ◌≤◌, eqb, ◌⊎◌, Result, Ok, List, [], ◌++◌, length, take, drop, sym, refl, ap, ◌∙◌, subst, ap₂, inl, inr, append-nil, arith}
 use Rattle.std.proofs.lemmas.List.{length-append, take-take, drop-take}
 use Rattle.std.proofs.lemmas.Bool.{eq-eqb, ne_eqb, cases_eq}
-use Rattle.format.specs.Places.{limit, stop, up, part, put, zeros, Bytes}
+use Rattle.format.specs.Places.{limit, up, part, put, zeros, Bytes}
 use Rattle.format.specs.Orders.{Order, Undoes, number, low_first}
 use Rattle.format.specs.Answers.{good, both, shifted}
 use Rattle.format.specs.Sheets.{slice_mark, at_place, marked, any, number_of, number_read}
@@ -16,7 +16,7 @@ use Rattle.format.proofs.FarLaws.{linked_parts}
 use Rattle.format.proofs.PutLaws.{put-put}
 use Rattle.format.proofs.RowLaws.{row_keeps}
 use Rattle.format.proofs.SheetLaws.{number_read-end, number_of_is, scan_number-any}
-use Rattle.kind.specs.Asked.{value_at, Next, Askable, Foretold, Fillable, Copyable, filled}
+use Rattle.kind.specs.Asked.{value_at, Fillable, Copyable}
 use Rattle.holding.proofs.Fronts.{held-there, held-found}
 use Rattle.holding.proofs.FarCalls.{HeldFar}
 use Rattle.holding.proofs.Through.{held_parts, held_copyable, held-copied}
