@@ -1,5 +1,5 @@
 -- What stands behind a mark in a sheet, by its place. Assumes nothing.
-use Rattle.std.proofs.Common.{◌≡◌, ℕ, ◌+◌, ◌≤◌, List, length, take, drop, IfOk, Ok, Err, Result, sym, refl, ap, ◌∙◌, arith, length-drop}
+use Rattle.std.proofs.Common.{◌≡◌, ℕ, ◌+◌, ◌≤◌, List, length, take, drop, IfOk, Ok, Err, Result, sym, refl, ap, ◌∙◌, subst, arith, length-drop}
 use Rattle.std.proofs.lemmas.List.{drop-drop, drop-take}
 use Rattle.format.specs.Places.{stop}
 use Rattle.format.specs.Answers.{Answer, Fault, good, bad, both, shifted, inside}
@@ -66,6 +66,10 @@ module _ (mark : List ℕ) (own : ℕ) (m : Meaning) (s : List ℕ) (p : ℕ) wh
               ap (λ z. drop c (first_of z v)) (all.1.0 ∙ ap good sum) ∙
               (drop-take c y.0 v ∙ (ap (take y.0) (drop-drop c p s) ∙ sym (ap (λ z. first_of z (drop (p + c) s)) y.1.0)));
         }
+
+-- the same by b, which is m as the code has it
+pub held-found : (mark : List ℕ) (own : ℕ) (m b : Meaning) → b ≡ m → (s : List ℕ) (p q : ℕ) → at_place (behind mark own m) s p ≡ good q → Next b s (p + (2 + own)) q
+held-found mark own m b is s p q h = subst (λ r. Next r s (p + (2 + own)) q) (sym is) (held-there mark own m s p q h).found
 
 -- where the mark ends
 mark-end : (mark : List ℕ) (own : ℕ) (s : List ℕ) (p e : ℕ) → at_place (marked mark own) s p ≡ good e → e ≡ p + (2 + own)

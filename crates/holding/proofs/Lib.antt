@@ -1,4 +1,3 @@
+pub mod FarCalls
 pub mod Fronts
-pub mod FarAsked
-pub mod FarFilled
 pub mod Through

@@ -6,7 +6,7 @@ use Rattle.format.specs.Meaning.{Meaning}
 use Rattle.format.specs.Items.{row}
 use Rattle.format.specs.Links.{array}
 use Rattle.kind.specs.Asked.{value_at, Next, Askable, Foretold, Fillable}
-use Rattle.holding.proofs.Fronts.{Held, held-there}
+use Rattle.holding.proofs.Fronts.{held-there, held-found}
 
 -- one look at the row, told one level deeper
 pub looked-bad : (x : Answer ℕ) (f : Fault) (p : ℕ) → bad f ≡ inside x → bad f ≡ inside (both x (λ _. good p))
@@ -19,18 +19,15 @@ looked-good (bad g) n p h = let z : ◌≡◌ {A = ℕ} 0 1 = cc in absurd (omeg
 
 -- b is the row as the code has it
 module _ (n : ℕ) (m b : Meaning) (is : b ≡ row m n) (s : List ℕ) (p : ℕ) where
-  inner : (q : ℕ) → Next (array n m) s p q → Held array_mark 0 (row m n) s p q
-  inner = held-there array_mark 0 (row m n) s p
-
   found : (q : ℕ) → Next (array n m) s p q → Next b s (p + 2) q
-  found q h = subst (λ r. Next r s (p + 2) q) (sym is) (inner q h).found
+  found = held-found array_mark 0 (row m n) b is s p
 
   pub array-next : (q r : ℕ) → Next (array n m) s p q → Next b s (p + 2) r → Next (array n m) s p r
   array-next q r h i = h ∙ (sym (found q h) ∙ i)
 
   -- what the row is laid as is what the array is laid as
   pub array-laid : (q h t : ℕ) → Next (array n m) s p q → b.lay (value_at b s (p + 2)) h t ≡ (array n m).lay (value_at (array n m) s p) h t
-  array-laid q h t f = ap (λ r. r.lay (value_at r s (p + 2)) h t) is ∙ ap (λ u. (row m n).lay u h t) (sym (inner q f).value)
+  array-laid q h t f = ap (λ r. r.lay (value_at r s (p + 2)) h t) is ∙ ap (λ u. (row m n).lay u h t) (sym (held-there array_mark 0 (row m n) s p q f).value)
 
   pub array_askable : (t : ℕ) → Askable (array n m) s p t → Askable b s (p + 2) t
   array_askable t a = record { next = a.next; found = found a.next a.found; reached = a.reached }

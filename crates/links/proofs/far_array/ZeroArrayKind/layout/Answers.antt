@@ -1,23 +1,22 @@
-use Rattle.format.specs.Sheets.{far_array_mark}
-use Rattle.format.specs.Items.{row}
-use Rattle.format.proofs.RowLaws.{row_keeps}
 use Rattle.format.proofs.ByteLists.{typed_bytes}
-use Rattle.links.proofs.LinkCalls.{link-next, link_tail, link_askable, link_foretold}
+use Rattle.holding.proofs.FarCalls.{far-next, far-tail_asks, far_askable, far_foretold}
+use Rattle.links.proofs.LinkCalls.{far_array_holds}
 use Rattle.links.proofs.far_array.ZeroArrayKind.layout.Goals as goal
 
 pub far_tail-start-requires : goal.far_tail-start-requires
-far_tail-start-requires g c = link_tail far_array_mark (row (g.K.Kind.meaning c.args.self.now.item) c.args.self.now.count.value) _ c.row-row.ensures g.E.Endian.order (row_keeps (g.K.Kind.meaning c.args.self.now.item) c.args.self.now.count.value (g.met.K.Kind.lawful c.args.self.now.item)) c.args.sheet.now c.args.at.now c.args.tail c.requires c.align.result c.size.result c.align.ensures c.size.ensures
+far_tail-start-requires g c =
+    let l = far_array_holds c.args.self.now.count.value (g.met.K.Kind.lawful c.args.self.now.item) g.met.E.Endian.undoes c.args.sheet.now c.args.at.now (typed_bytes c.args.sheet.now c.type_inv.sheet) c.row-row.ensures in
+    far-tail_asks l c.align.ensures c.size.ensures c.requires
 
 pub layout-end-requires : goal.layout-end-requires
 layout-end-requires g c =
-    link_askable far_array_mark (row (g.K.Kind.meaning c.args.self.now.item) c.args.self.now.count.value) _ c.row-row.ensures g.E.Endian.order (row_keeps (g.K.Kind.meaning c.args.self.now.item) c.args.self.now.count.value (g.met.K.Kind.lawful c.args.self.now.item)) c.args.sheet.now c.args.at.now (typed_bytes c.args.sheet.now c.type_inv.sheet)
-    c.args.tail c.requires c.align.result c.size.result c.far_tail-start.result c.far_tail-start.ensures c.align.ensures c.size.ensures
+    let l = far_array_holds c.args.self.now.count.value (g.met.K.Kind.lawful c.args.self.now.item) g.met.E.Endian.undoes c.args.sheet.now c.args.at.now (typed_bytes c.args.sheet.now c.type_inv.sheet) c.row-row.ensures in
+    far_askable l c.align.ensures c.size.ensures c.requires c.far_tail-start.ensures
 
 pub returns : goal.returns
-returns g c = record {
-  foretold =
-      link_foretold far_array_mark (row (g.K.Kind.meaning c.args.self.now.item) c.args.self.now.count.value) _ c.row-row.ensures g.E.Endian.order (row_keeps (g.K.Kind.meaning c.args.self.now.item) c.args.self.now.count.value (g.met.K.Kind.lawful c.args.self.now.item)) c.args.sheet.now c.args.at.now (typed_bytes c.args.sheet.now c.type_inv.sheet)
-      c.args.tail c.requires c.align.result c.size.result c.far_tail-start.result c.far_tail-start.ensures c.align.ensures c.size.ensures
-      c.layout-end.result.0 c.layout-end.result.1 c.max.result c.max.ensures c.layout-end.ensures.foretold;
-  next = link-next far_array_mark (row (g.K.Kind.meaning c.args.self.now.item) c.args.self.now.count.value) _ c.row-row.ensures g.E.Endian.order (row_keeps (g.K.Kind.meaning c.args.self.now.item) c.args.self.now.count.value (g.met.K.Kind.lawful c.args.self.now.item)) c.args.sheet.now c.args.at.now c.requires.next c.layout-end.new.at c.requires.found c.layout-end.ensures.next;
-}
+returns g c =
+    let l = far_array_holds c.args.self.now.count.value (g.met.K.Kind.lawful c.args.self.now.item) g.met.E.Endian.undoes c.args.sheet.now c.args.at.now (typed_bytes c.args.sheet.now c.type_inv.sheet) c.row-row.ensures in
+    record {
+      foretold = far_foretold l c.align.ensures c.size.ensures c.requires c.far_tail-start.ensures c.layout-end.ensures.foretold c.max.ensures;
+      next = far-next l c.requires.found c.layout-end.ensures.next;
+    }

@@ -1,22 +1,22 @@
-use Rattle.std.proofs.Common.{refl}
-use Rattle.format.specs.Sheets.{pointer_mark}
 use Rattle.format.proofs.ByteLists.{typed_bytes}
-use Rattle.links.proofs.LinkCalls.{link-next, link_tail, link_askable, link_foretold}
+use Rattle.holding.proofs.FarCalls.{far-next, far-tail_asks, far_askable, far_foretold}
+use Rattle.links.proofs.LinkCalls.{pointer_holds}
 use Rattle.links.proofs.pointer.RelativePtrKind.layout.Goals as goal
 
 pub far_tail-start-requires : goal.far_tail-start-requires
-far_tail-start-requires g c = link_tail pointer_mark (g.K.Kind.meaning c.args.self.now.item) _ refl g.E.Endian.order (g.met.K.Kind.lawful c.args.self.now.item).keeps c.args.sheet.now c.args.at.now c.args.tail c.requires c.align.result c.size.result c.align.ensures c.size.ensures
+far_tail-start-requires g c =
+    let l = pointer_holds (g.met.K.Kind.lawful c.args.self.now.item) g.met.E.Endian.undoes c.args.sheet.now c.args.at.now (typed_bytes c.args.sheet.now c.type_inv.sheet) in
+    far-tail_asks l c.align.ensures c.size.ensures c.requires
 
 pub layout-end-requires : goal.layout-end-requires
 layout-end-requires g c =
-    link_askable pointer_mark (g.K.Kind.meaning c.args.self.now.item) _ refl g.E.Endian.order (g.met.K.Kind.lawful c.args.self.now.item).keeps c.args.sheet.now c.args.at.now (typed_bytes c.args.sheet.now c.type_inv.sheet)
-    c.args.tail c.requires c.align.result c.size.result c.far_tail-start.result c.far_tail-start.ensures c.align.ensures c.size.ensures
+    let l = pointer_holds (g.met.K.Kind.lawful c.args.self.now.item) g.met.E.Endian.undoes c.args.sheet.now c.args.at.now (typed_bytes c.args.sheet.now c.type_inv.sheet) in
+    far_askable l c.align.ensures c.size.ensures c.requires c.far_tail-start.ensures
 
 pub returns : goal.returns
-returns g c = record {
-  foretold =
-      link_foretold pointer_mark (g.K.Kind.meaning c.args.self.now.item) _ refl g.E.Endian.order (g.met.K.Kind.lawful c.args.self.now.item).keeps c.args.sheet.now c.args.at.now (typed_bytes c.args.sheet.now c.type_inv.sheet)
-      c.args.tail c.requires c.align.result c.size.result c.far_tail-start.result c.far_tail-start.ensures c.align.ensures c.size.ensures
-      c.layout-end.result.0 c.layout-end.result.1 c.max.result c.max.ensures c.layout-end.ensures.foretold;
-  next = link-next pointer_mark (g.K.Kind.meaning c.args.self.now.item) _ refl g.E.Endian.order (g.met.K.Kind.lawful c.args.self.now.item).keeps c.args.sheet.now c.args.at.now c.requires.next c.layout-end.new.at c.requires.found c.layout-end.ensures.next;
-}
+returns g c =
+    let l = pointer_holds (g.met.K.Kind.lawful c.args.self.now.item) g.met.E.Endian.undoes c.args.sheet.now c.args.at.now (typed_bytes c.args.sheet.now c.type_inv.sheet) in
+    record {
+      foretold = far_foretold l c.align.ensures c.size.ensures c.requires c.far_tail-start.ensures c.layout-end.ensures.foretold c.max.ensures;
+      next = far-next l c.requires.found c.layout-end.ensures.next;
+    }
