@@ -119,7 +119,7 @@ pub(crate) fn text_at(archive: &[u8], place: usize) -> Result<&str, Refusal> {
 
 // The sheet of one list. A list that shares bytes can have a longer sheet than its archive, so the output grows until it has room.
 pub(crate) fn copy<R: Root>(heap: Global, archive: &[u8]) -> Result<Vec<u8>, Fault> {
-    let place = target::<R>(archive).map_err(refused::<R>)?;
+    let place = target::<R>(archive).map_err(|refusal| refused::<R>(refusal))?;
     let mut room = archive.len();
     // A loop needs an end: doubled so often, no room is larger.
     for _ in 0..usize::BITS {
@@ -127,7 +127,7 @@ pub(crate) fn copy<R: Root>(heap: Global, archive: &[u8]) -> Result<Vec<u8>, Fau
         match copy_out(&list_of::<R>(), archive, place, output.as_mut_slice()) {
             Err(refusal) if refusal.cause == Cause::NoRoom => room = room.saturating_mul(2),
             copied => {
-                output.truncate(copied.map_err(refused::<R>)?);
+                output.truncate(copied.map_err(|refusal| refused::<R>(refusal))?);
                 return Ok(output);
             }
         }

@@ -26,14 +26,56 @@ pub enum Command<'a> {
     Help,
 }
 
-const HELP: &str = "\
-plates build LIST FILE   builds the archive FILE from the plate list LIST
-plates check FILE        reads all of an archive, and says what is wrong and where
-plates list FILE         shows each plate: its number, its cast, the parts that were cut from it
-plates words FILE        shows the sheet of the plate numbers word by word: each with its place and its length, then totals
-plates copy FILE         writes the sheets of the three lists to standard output, one behind another
-plates help              shows this
-plates                   the whole round in memory, on the plate list that standard input has, and what a damaged byte does
+// How a command is written behind the program's name, and what it does.
+struct Usage {
+    name: &'static str,
+    words: &'static str,
+    does: &'static str,
+}
+
+static USAGES: [Usage; 6] = [
+    Usage {
+        name: "build",
+        words: "build LIST FILE",
+        does: "builds the archive FILE from the plate list LIST",
+    },
+    Usage {
+        name: "check",
+        words: "check FILE",
+        does: "reads all of an archive, and says what is wrong and where",
+    },
+    Usage {
+        name: "list",
+        words: "list FILE",
+        does: "shows each plate: its number, its cast, the parts that were cut from it",
+    },
+    Usage {
+        name: "words",
+        words: "words FILE",
+        does: "shows the sheet of the plate numbers: each with its place in it and its length, then totals",
+    },
+    Usage {
+        name: "copy",
+        words: "copy FILE",
+        does: "writes the sheets of the three lists to standard output, one behind another",
+    },
+    Usage {
+        name: "help",
+        words: "help",
+        does: "shows this",
+    },
+];
+
+const MORE_HELP: &str = "\
+plates                   the whole round in memory, on the list that standard input has; at its end a byte is damaged
+
+A plate list is UTF-8 text with a line a plate: number;cast;part;part;..  A plate of which nothing was cut has no parts.
+Where a list or an archive is read, '-' stands for standard input. FILE may not be LIST, nor anything that is no file.
+build writes FILE.part, reads it again, checks it, copies its lists out, compares, and only then renames it to FILE: what
+has the name FILE is always whole. Where a build was cut off FILE.part stays, and the next build says so: remove it then.
+Where anything is refused, standard error says why, standard output has nothing, and the exit status is 1; the status is 1
+too where standard output cannot be written. Reading more than 16 MiB is told of on standard error. More than
+2,147,483,647 bytes are refused.
 ";
 
 fn checked(heap: Global, name: Name<'_>, archive: &[u8]) -> Result<String, Fault> {
@@ -79,7 +121,20 @@ fn build<'a>(rt: &HostRuntime, list: Name<'a>, path: &'a str) -> Result<Vec<u8>,
 }
 
 fn help(heap: Global) -> Result<Vec<u8>, AllocError> {
-    Ok(String::from_str(heap, HELP)?.into_bytes())
+    let mut text = String::new(heap);
+    for usage in &USAGES {
+        writeln!(text, "plates {:<17} {}", usage.words, usage.does)?;
+    }
+    text.push_str(MORE_HELP)?;
+    Ok(text.into_bytes())
+}
+
+// Words that are no command, or another number of them than it takes.
+fn misused(name: &str) -> Trouble<'_> {
+    match USAGES.iter().find(|usage| usage.name == name) {
+        Some(usage) => Trouble::Usage(usage.words),
+        None => Trouble::NoCommand(name),
+    }
 }
 
 impl<'a> Command<'a> {
@@ -95,13 +150,7 @@ impl<'a> Command<'a> {
             ["words", file] => Ok(Command::Ask(Question::Words, Name::of(file))),
             ["copy", file] => Ok(Command::Ask(Question::Copy, Name::of(file))),
             ["help" | "--help" | "-h"] => Ok(Command::Help),
-            ["build", ..] => Err(Trouble::Usage("plates build LIST FILE")),
-            ["check", ..] => Err(Trouble::Usage("plates check FILE")),
-            ["list", ..] => Err(Trouble::Usage("plates list FILE")),
-            ["words", ..] => Err(Trouble::Usage("plates words FILE")),
-            ["copy", ..] => Err(Trouble::Usage("plates copy FILE")),
-            ["help", ..] => Err(Trouble::Usage("plates help")),
-            [other, ..] => Err(Trouble::NoCommand(other)),
+            [name, ..] => Err(misused(name)),
         }
     }
 

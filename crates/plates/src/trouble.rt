@@ -10,11 +10,11 @@ use thiserror::Error;
 
 #[derive(Debug, Drop, Error)]
 pub enum Trouble<'a> {
-    #[error("the words behind its name cannot be read: {0}")]
+    #[error("the words of the command cannot be read: {0}")]
     Words(io::Error),
     #[error("there is no command '{0}'; 'plates help' shows those that there are")]
     NoCommand(&'a str),
-    #[error("this command is written '{0}'; 'plates help' says more")]
+    #[error("this command is written 'plates {0}'; 'plates help' says more")]
     Usage(&'static str),
     #[error("cannot open {name}: {error}")]
     Open {
@@ -28,7 +28,7 @@ pub enum Trouble<'a> {
     },
     #[error("{0} is a directory")]
     Directory(Name<'a>),
-    #[error("{0} is there and is no file that can be replaced")]
+    #[error("{0} is there, and is no file that could be replaced")]
     NoFile(Name<'a>),
     #[error("{name} is refused: {refusal}")]
     TooLong {
@@ -41,11 +41,11 @@ pub enum Trouble<'a> {
         told: u64,
         read: usize,
     },
-    #[error("an archive cannot be written to '-', since it is read again before it has its name")]
+    #[error("FILE cannot be '-': an archive is read again before it gets its name")]
     ToStandardOutput,
-    #[error("{0} is the list itself, which an archive would replace")]
+    #[error("{0} is the list itself: the archive would replace it")]
     OneFile(Name<'a>),
-    #[error("{0} is there: another build is writing it, or one was cut off, and then it can be removed")]
+    #[error("{0} is there already: another build is at work, or one was cut off and left it; then it can be removed")]
     Taken(Name<'a>),
     #[error("cannot write {name}: {error}")]
     Write {
