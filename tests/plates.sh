@@ -209,6 +209,9 @@ if [ -c /dev/full ]; then
     "$bin" copy boat.plates >/dev/full 2>err
     [ $? -eq 1 ] && grep -qF "plates: cannot write to standard output: No space left on device" err
     check "standard output that is full" $?
+    "$bin" build "$sample" told.plates >/dev/full 2>err
+    [ $? -eq 1 ] && cmp -s told.plates boat.plates && [ ! -e told.plates.part ]
+    check "the file is whole then too" $?
 fi
 "$bin" check middle >out 2>&-
 [ $? -eq 1 ] && [ ! -s out ]
