@@ -157,7 +157,7 @@ mkdir taken
 refuses "a name that is taken by a folder" "taken is a directory" build "$sample" taken
 refuses "a folder is no archive" "taken is a directory" check taken
 mkfifo pipe
-refuses "a name that is taken by a pipe" "pipe is there and is no file" build "$sample" pipe
+refuses "a name that is taken by a pipe" "pipe is there, and is no file" build "$sample" pipe
 [ -p pipe ] && [ ! -e pipe.part ] && [ ! -e taken.part ]
 check "what had the names still has them" $?
 said=$( (trap '' XFSZ && ulimit -f 0 && exec "$bin" build "$sample" kept) 2>&1 >/dev/null)
@@ -181,10 +181,10 @@ refuses "a file over the limit" "large is refused: more bytes than the limit of 
 refuses "a list over the limit" "large is refused: more bytes than the limit of 2,147,483,647 (refusal 1, place 0, depth 0)" build large bad.plates
 rm -f large
 truncate -s 20M middle
-"$bin" check middle >out 2>err
-[ "$(head -n 1 err)" = "plates: middle: 16 MiB read .." ] && [ "$(wc -l <err)" -eq 2 ]
+"$bin" check middle >out 2>err && [ "$(cat err)" = "plates: middle: 16 MiB read .." ] && grep -qF "middle is sound: 0 plates" out
 check "a large file is told of as it is read" $?
 truncate -s 1G shrunk
+: >err
 "$bin" check shrunk >out 2>err &
 reader=$!
 until [ -s err ] || ! kill -0 "$reader" 2>/dev/null; do :; done
@@ -213,9 +213,11 @@ if [ -c /dev/full ]; then
     [ $? -eq 1 ] && cmp -s told.plates boat.plates && [ ! -e told.plates.part ]
     check "the file is whole then too" $?
 fi
-"$bin" check middle >out 2>&-
+"$bin" check short >out 2>&-
 [ $? -eq 1 ] && [ ! -s out ]
 check "standard error that is closed" $?
+"$bin" check middle >out 2>&- && grep -qF "middle is sound: 0 plates" out
+check "progress that cannot be told" $?
 
 # The words of the command line
 accepts "help" "plates build LIST FILE" help
