@@ -1,105 +1,55 @@
-// plates [FILE]: reads a plate list, a plate number a line, makes the sheet of its texts, reads that back and shows its words.
+// plates: builds an archive of a plate list, checks one, lists it, and copies its sheets out.
 #![tactic(auto)]
 
-use anyhow::anyhow;
-use plate_lists::{ListError, lines, list_words, sheet_of_texts};
-use refusal::Refusal;
-use sheet::Word;
-use std::io::{self, Read};
-use std::{env, fs, mem, str};
+mod archived;
+mod assemble;
+mod build;
+mod command;
+mod input;
+mod name;
+mod plate_list;
+mod roots;
+mod round;
+mod show;
+mod trouble;
+mod whole;
 
-// The bytes of the file that the first word names; of standard input where there is none.
-fn input(rt: &HostRuntime) -> anyhow::Result<Vec<u8>> {
-    match env::args(rt)?.nth(1) {
-        Some(path) if path.as_str() != "-" => fs::read(rt, path.as_str()).or_else(|e| {
-            eprintln!(rt; "plates: cannot read {path}")?;
-            Err(e.into())
-        }),
-        _ => {
-            let mut bytes = Vec::new(rt.alloc());
-            rt.stdin().read_to_end(&mut bytes)?;
-            Ok(bytes)
+use crate::command::Command;
+use crate::trouble::Trouble;
+use std::io::Write;
+use std::process::ExitCode;
+use std::{env, io};
+
+// The words behind the program's name.
+fn words(rt: &HostRuntime) -> io::Result<Vec<String>> {
+    Ok(env::args(rt)?.skip(1).collect(rt.alloc())?)
+}
+
+// All of standard output is written at once, when nothing can be refused any more.
+fn run<'a>(rt: &HostRuntime, words: &'a [String]) -> Result<(), Trouble<'a>> {
+    let words: Vec<_> = words.iter().map(String::as_str).collect(rt.alloc())?;
+    let output = Command::of(words.as_slice())?.run(rt)?;
+    // No `map_err`, which takes no constructor whose type names a lifetime that its argument has not.
+    match rt.stdout().write_all(output.as_slice()) {
+        Ok(()) => Ok(()),
+        Err(error) => Err(Trouble::Output(error)),
+    }
+}
+
+fn ended(rt: &HostRuntime, done: Result<(), Trouble>) -> ExitCode {
+    match done {
+        Ok(()) => ExitCode::SUCCESS,
+        Err(trouble) => {
+            // Where standard error is closed too, the status is left to tell.
+            let _ = eprintln!(rt; "plates: {trouble}");
+            ExitCode::FAILURE
         }
     }
 }
 
-// The number of the line, from 1, whose text has its mark at a place of the sheet.
-fn line_at(texts: &[&[u8]], place: usize) -> Option<usize> {
-    let index = texts
-        .iter()
-        .scan(6usize, |next, text| {
-            let behind = next.saturating_add(6).saturating_add(text.len());
-            Some(mem::replace(next, behind))
-        })
-        .position(|mark| mark == place)?;
-    Some(index + 1)
-}
-
-fn refused(rt: &HostRuntime, texts: &[&[u8]], refusal: Refusal) -> io::Result<()> {
-    match line_at(texts, refusal.place) {
-        Some(line) if refusal.depth == 1 => eprintln!(rt;
-            "plates: line {line} of the list is refused: {refusal}"
-        ),
-        _ => eprintln!(rt; "plates: the list is refused: {refusal}"),
+fn main(rt: HostRuntime) -> ExitCode {
+    match words(&rt) {
+        Ok(words) => ended(&rt, run(&rt, words.as_slice())),
+        Err(error) => ended(&rt, Err(Trouble::Words(error))),
     }
-}
-
-// The error to end with where a list is not shown; a refusal is told first.
-fn stopped(rt: &HostRuntime, texts: &[&[u8]], error: ListError) -> anyhow::Error {
-    match error {
-        ListError::Refused(refusal) => match refused(rt, texts, refusal) {
-            Ok(()) => anyhow!("nothing was written"),
-            Err(e) => e.into(),
-        },
-        other => other.into(),
-    }
-}
-
-fn show_text(rt: &HostRuntime, index: usize, place: usize, bytes: &[u8]) -> anyhow::Result<()> {
-    let length = bytes.len();
-    let text = str::from_utf8(bytes).unwrap_or("?");
-    println!(rt; "{index:>5}  place {place:>6}  length {length:>4}  {text}")?;
-    Ok(())
-}
-
-fn show(rt: &HostRuntime, words: &[Word], sheet_length: usize) -> anyhow::Result<()> {
-    for (index, word) in words.iter().enumerate() {
-        if let Word::Text { place, bytes } = *word {
-            show_text(rt, index, place, bytes)?;
-        }
-    }
-    let lengths = || {
-        words.iter().filter_map(|word| match word {
-            Word::Text { bytes, .. } => Some(bytes.len()),
-            _ => None,
-        })
-    };
-    let count = words.len();
-    let empty = lengths().filter(|length| *length == 0).count();
-    let bytes_in_all = lengths().fold(0, usize::saturating_add);
-    println!(rt;
-        "{count} plates, {empty} of them without a number; {bytes_in_all} bytes of text in a sheet of {sheet_length} bytes"
-    )?;
-    Ok(())
-}
-
-fn show_list(rt: &HostRuntime, texts: &[&[u8]]) -> anyhow::Result<()> {
-    let sheet = sheet_of_texts(rt.alloc(), texts).map_err(|error| stopped(rt, texts, error))?;
-    let words = list_words(rt.alloc(), sheet.as_slice()).map_err(|error| stopped(
-        rt, texts, error,
-    ))?;
-    show(rt, words.as_slice(), sheet.len())
-}
-
-fn run(rt: &HostRuntime) -> anyhow::Result<()> {
-    let list = input(rt)?;
-    let texts = lines(rt.alloc(), list.as_slice())?;
-    if texts.is_empty() {
-        return Err(anyhow!("the list is empty: it has no plate"));
-    }
-    show_list(rt, texts.as_slice())
-}
-
-fn main(rt: HostRuntime) -> anyhow::Result<()> {
-    run(&rt)
 }

@@ -1,0 +1,85 @@
+// Writing an archive whole, or not at all.
+use crate::archived::verify;
+use crate::build::Built;
+use crate::input::read;
+use crate::name::Name;
+use crate::roots::Sheets;
+use crate::trouble::Trouble;
+use std::alloc::AllocError;
+use std::fs;
+use std::fs::{File, Metadata};
+use std::io::{ErrorKind, Write};
+use std::os::unix::fs::MetadataExt;
+
+// Whether a list stands in the file that is there, by whichever names.
+fn holds(rt: &HostRuntime, there: &Metadata, list: Name) -> Result<bool, AllocError> {
+    let path = list.path(rt.alloc())?;
+    Ok(fs::metadata(rt, path).is_ok_and(|listed| listed.dev() == there.dev()
+        && listed.ino() == there.ino()))
+}
+
+// An archive takes the place of what has its name: of nothing but a file, and never of the list that it is built from.
+pub(crate) fn refuse_place<'a>(
+    rt: &HostRuntime,
+    list: Name<'a>,
+    path: &'a str,
+) -> Result<(), Trouble<'a>> {
+    let name = Name::Path(path);
+    if path == "-" {
+        return Err(Trouble::ToStandardOutput);
+    }
+    match fs::metadata(rt, path) {
+        Ok(there) if there.is_dir() => Err(Trouble::Directory(name)),
+        Ok(there) if !there.is_file() => Err(Trouble::NoFile(name)),
+        Ok(there) if holds(rt, &there, list)? => Err(Trouble::OneFile(name)),
+        // What cannot be looked at is no file yet, or is told of where it is written.
+        _ => Ok(()),
+    }
+}
+
+// A file that was there belongs to another build, or is the list: it stays as it is.
+fn create<'a>(rt: &HostRuntime, name: Name<'a>, path: &str) -> Result<File, Trouble<'a>> {
+    File::create_new(rt, path).map_err(|error| match error.kind() {
+        ErrorKind::AlreadyExists => Trouble::Taken(name),
+        _ => Trouble::Write { name, error },
+    })
+}
+
+fn fill<'a>(mut file: File, name: Name<'a>, bytes: &[u8]) -> Result<(), Trouble<'a>> {
+    file.write_all(bytes)
+        .and_then(|()| file.sync_all())
+        .map_err(|error| Trouble::Write { name, error })
+}
+
+fn verify_file<'a>(rt: &HostRuntime, name: Name<'a>, sheets: &Sheets) -> Result<(), Trouble<'a>> {
+    let bytes = read(rt, name)?;
+    verify(rt.alloc(), bytes.as_slice(), sheets).map_err(|fault| Trouble::Archive { name, fault })
+}
+
+fn fill_and_rename<'a>(
+    rt: &HostRuntime,
+    file: File,
+    path: &'a str,
+    built: &Built,
+) -> Result<(), Trouble<'a>> {
+    let (from, to) = (Name::Beside(path), Name::Path(path));
+    fill(file, from, built.archive.as_slice())?;
+    verify_file(rt, from, &built.sheets)?;
+    fs::rename(rt, from.path(rt.alloc())?, path).map_err(|error| Trouble::Rename {
+        from,
+        to,
+        error,
+    })
+}
+
+// Written beside the file, under another name, read again and verified; then it gets its name. On any trouble it is taken away.
+pub(crate) fn put<'a>(rt: &HostRuntime, path: &'a str, built: &Built) -> Result<(), Trouble<'a>> {
+    let beside = Name::Beside(path);
+    let beside_path = beside.path(rt.alloc())?;
+    let file = create(rt, beside, beside_path.as_str())?;
+    let done = fill_and_rename(rt, file, path, built);
+    if done.is_err() {
+        let _ = fs::remove_file(rt, beside_path);
+    }
+    done
+}
