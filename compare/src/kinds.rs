@@ -198,7 +198,8 @@ fn in_order<O: Order>(kinds: &mut Kinds) {
     twice_over::<O, ZeroStr<O>>(kinds);
     deep! { O, kinds:
         [s s 8] [p p 8]
-        [p p p 1] [s s s 2] [s p s b] [r2 s r2 c] [s a3 r2 8] [s s r2 1] [a3 a3 a3 1] [r2 r2 r2 b] [a3 p s t] [p s a3 i5] [p r2 s t] [s p s t]
+        [p p p 1] [s s s 2] [s p s b] [r2 s r2 c] [s a3 r2 8] [s s r2 1] [a3 a3 a3 1] [r2 r2 r2 b]
+        [a3 p s t] [p s a3 i5] [p r2 s t] [s p s t]
     }
     // The other types of a number kind.
     over_and_alone::<O, i8>(kinds);

@@ -6,6 +6,7 @@ use crate::memory::Watched;
 use crate::original::{AlignedBuffer, ZeroBuilder};
 use crate::port::{self, Answer, Calls};
 use std::panic::{catch_unwind, AssertUnwindSafe};
+use std::sync::Once;
 
 pub enum Call<'k> {
     Align(usize),
@@ -196,12 +197,15 @@ thread_local! {
 
 /// Has panics inside `quietly` say nothing.
 pub fn hush() {
-    let usual = std::panic::take_hook();
-    std::panic::set_hook(Box::new(move |panic| {
-        if !QUIET.get() {
-            usual(panic);
-        }
-    }));
+    static ONCE: Once = Once::new();
+    ONCE.call_once(|| {
+        let usual = std::panic::take_hook();
+        std::panic::set_hook(Box::new(move |panic| {
+            if !QUIET.get() {
+                usual(panic);
+            }
+        }));
+    });
 }
 
 const ALIGNMENTS: [usize; 10] = [0, 1, 1, 1, 2, 4, 8, 16, 64, 4096];

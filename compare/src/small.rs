@@ -51,7 +51,7 @@ pub fn lengths(tally: &mut Tally, looker: &mut Looker, kinds: &Kinds) -> Outcome
     const TAILS: [&[u8]; 9] = [b"", b"A", b"\x80", b"A\xC3", b"\xC3\xA9", b"\xED\xA0", b"AB\xFF", b"\xE2\x82\xAC", b"\xF0\x9F\x9A\xA2"];
     for kind in named(kinds, &["t", "s1", "s2"]) {
         for count in words(&[0x00, 0x01, 0x02, 0xFF]) {
-            for distance in words(&FEW) {
+            for distance in words(&[0x00, 0x01, 0x04, 0xFC, 0xFF]) {
                 for tail in TAILS {
                     let mut archive = [0; 12];
                     archive[..4].copy_from_slice(&count);
