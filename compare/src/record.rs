@@ -5,6 +5,7 @@ use crate::kinds::{Kind, Kinds};
 use crate::lives::{lead, lead_to, Call, Life, Said};
 use crate::memory::Page;
 use crate::shapes::Led;
+use std::collections::BTreeSet;
 use std::path::Path;
 use std::{fs, io};
 
@@ -69,12 +70,20 @@ pub fn record(seed: u64, kinds: &Kinds, folder: &Path) -> io::Result<()> {
     let mut dice = Dice::new(seed);
     let mut page = Page::new(1 << 20);
     let mut recorded = Recorded::default();
+    let mut seen = BTreeSet::new();
     for kind in kinds {
         let kind = &**kind;
+        // Once for each name, and not again for a second type of the original's.
+        if !seen.insert((kind.name(), kind.order())) {
+            continue;
+        }
         let life = lead_to(&mut dice, kind);
         let archive = recorded.life(&life);
         let (_, place) = life.records[0];
         recorded.looks(&mut page, kind, &archive, place);
+        if seen.len() % 3 != 0 {
+            continue;
+        }
         damaged(&mut recorded, &mut dice, &mut page, kind, &archive, place);
     }
     for _ in 0..40 {
