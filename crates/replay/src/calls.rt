@@ -3,6 +3,7 @@ use crate::desk::Desk;
 use crate::said::Said;
 use crate::trouble::{Trouble, Unread};
 use archive::{copy_out, get, is_valid, is_valid_deep};
+use catalogue::Use;
 use kind::{Found, Kind, OneStep};
 
 // A value's head in an archive.
@@ -32,22 +33,11 @@ pub struct Request<'a> {
     pub buffer: &'a mut [u8],
 }
 
-impl Request<'_> {
-    // With a kind of one step.
-    pub(crate) fn step<K: OneStep>(self, kind: &K) -> Result<Said, Trouble> {
-        let Request { call, desk, buffer } = self;
-        let Call::Get(root) = call else {
-            return Request { call, desk, buffer }.make(kind);
-        };
-        match get(kind, root.archive.as_slice(), root.place)? {
-            Found::Target { place } => Ok(Said::Number(place)),
-            Found::Items { place, count } => Ok(Said::Pair(place, count as usize)),
-            Found::Text(part) => Ok(Said::Bytes(part.place, desk.copied(part.bytes)?)),
-        }
-    }
+impl Use for Request<'_> {
+    type Answer = Result<Said, Trouble>;
 
-    // With any kind; but one step is not for each.
-    pub(crate) fn make<K: Kind>(self, kind: &K) -> Result<Said, Trouble> {
+    // One step is not for each kind.
+    fn with<K: Kind>(self, kind: &K) -> Result<Said, Trouble> {
         let Request { call, desk, buffer } = self;
         let number = match call {
             Call::Scan(sheet) => kind.scan(sheet.as_slice(), 0)?,
@@ -69,5 +59,17 @@ impl Request<'_> {
             Call::Build(sheet) => desk.builder()?.build(buffer, kind, sheet.as_slice())?,
         };
         Ok(Said::Number(number))
+    }
+
+    fn with_step<K: OneStep>(self, kind: &K) -> Result<Said, Trouble> {
+        let Request { call, desk, buffer } = self;
+        let Call::Get(root) = call else {
+            return Request { call, desk, buffer }.with(kind);
+        };
+        match get(kind, root.archive.as_slice(), root.place)? {
+            Found::Target { place } => Ok(Said::Number(place)),
+            Found::Items { place, count } => Ok(Said::Pair(place, count as usize)),
+            Found::Text(part) => Ok(Said::Bytes(part.place, desk.copied(part.bytes)?)),
+        }
     }
 }

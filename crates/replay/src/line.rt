@@ -1,27 +1,15 @@
 // A line: what it asks for, read from its words.
 use crate::calls::{Call, Request};
-use crate::catalogue::named;
 use crate::desk::Desk;
 use crate::said::Said;
 use crate::trouble::{Trouble, Unread};
 use crate::words::Words;
-use endian::order::{BigEndian, LittleEndian};
+use catalogue::{Order, with_kind};
 
-#[derive(Clone, Copy)]
-pub enum Order {
-    Little,
-    Big,
-}
-
-impl TryFrom<&str> for Order {
-    type Error = Unread;
-
-    fn try_from(word: &str) -> Result<Order, Unread> {
-        match word {
-            "l" => Ok(Order::Little),
-            "b" => Ok(Order::Big),
-            _ => Err(Unread::NoOrder),
-        }
+fn order(word: &str) -> Result<Order, Unread> {
+    match word.as_bytes() {
+        [letter] => Order::named(*letter).ok_or(Unread::NoOrder),
+        _ => Err(Unread::NoOrder),
     }
 }
 
@@ -40,7 +28,7 @@ pub enum Task<'a> {
 impl<'a> Task<'a> {
     fn with_kind(words: Words<'a>, call: Call) -> Result<Task<'a>, Trouble> {
         let name = words.word(1)?;
-        let order = Order::try_from(words.word(2)?)?;
+        let order = order(words.word(2)?)?;
         Ok(Task::Kind(name, order, call))
     }
 
@@ -102,11 +90,7 @@ impl<'a> Task<'a> {
         let place = match self {
             Task::Kind(name, order, call) => {
                 let request = Request { call, desk, buffer };
-                // An order is a type, so it is chosen here.
-                return match order {
-                    Order::Little => named::<LittleEndian>(name, request),
-                    Order::Big => named::<BigEndian>(name, request),
-                };
+                return with_kind(name.as_bytes(), order, request).ok_or(Unread::NoKind)?;
             }
             Task::Align(alignment) => desk.builder()?.align(buffer, alignment)?,
             Task::ReserveBytes { count, alignment } => {

@@ -2,7 +2,6 @@
 #![tactic(auto)]
 
 mod calls;
-mod catalogue;
 mod desk;
 mod line;
 mod said;

@@ -1,0 +1,19 @@
+// The byte order of a kind, as a value.
+ghost use Rattle.std.specs.Prelude.{◌≡◌};
+
+#[derive(Clone, Copy, PartialEq, Eq, Debug)]
+pub enum Order {
+    Little,
+    Big,
+}
+
+impl Order {
+    // By its ASCII letter.
+    pub fn named(letter: u8) -> Option<Order> {
+        match letter {
+            b'l' => Some(Order::Little),
+            b'b' => Some(Order::Big),
+            _ => None,
+        }
+    }
+}

@@ -1,0 +1,72 @@
+// What C calls: `c/gachullpi.h` declares these functions, and says what is asked of their caller. A thin layer: each hands its call to the library.
+#![tactic(auto)]
+
+ghost use Rattle.utf8.specs.Recognised.{Recognised};
+
+mod answer;
+mod calls;
+mod encoded;
+mod event;
+mod life;
+
+use crate::calls::{CopyOut, Deep, Get, Root, Scan, Shallow, asked};
+pub use answer::Answer;
+
+#[unsafe(no_mangle)]
+pub extern "C" fn gachullpi_is_text(bytes: &[u8]) -> bool
+    ensures { Recognised bytes.now result }
+{
+    utf8::is_text(bytes)
+}
+
+#[unsafe(no_mangle)]
+pub extern "C" fn gachullpi_scan(kind: &[u8], sheet: &[u8]) -> Answer {
+    // A sheet has no byte order.
+    asked(kind, b'l', Scan { sheet })
+}
+
+#[unsafe(no_mangle)]
+pub extern "C" fn gachullpi_is_valid(
+    kind: &[u8],
+    order: u8,
+    archive: &[u8],
+    place: usize,
+) -> Answer {
+    asked(kind, order, Shallow(Root { archive, place }))
+}
+
+#[unsafe(no_mangle)]
+pub extern "C" fn gachullpi_is_valid_deep(
+    kind: &[u8],
+    order: u8,
+    archive: &[u8],
+    place: usize,
+) -> Answer {
+    asked(kind, order, Deep(Root { archive, place }))
+}
+
+#[unsafe(no_mangle)]
+pub extern "C" fn gachullpi_get(kind: &[u8], order: u8, archive: &[u8], place: usize) -> Answer {
+    asked(kind, order, Get(Root { archive, place }))
+}
+
+#[unsafe(no_mangle)]
+pub extern "C" fn gachullpi_copy_out(
+    kind: &[u8],
+    order: u8,
+    archive: &[u8],
+    place: usize,
+    output: &mut [u8],
+) -> Answer {
+    let root = Root { archive, place };
+    asked(kind, order, CopyOut { root, output })
+}
+
+#[unsafe(no_mangle)]
+pub extern "C" fn gachullpi_life(
+    calls: &[u8],
+    buffer: &mut [u8],
+    answers: &mut [Answer],
+) -> Answer {
+    life::run(calls, buffer, answers)
+}
