@@ -379,6 +379,9 @@ impl Lives {
         tally.bytes("the whole archive", archive);
         for (place, byte) in archive.iter().enumerate() {
             let due = if life.unknown[place] { 0 } else { life.archive[place] };
+            if life.unknown[place] {
+                tally.count("left out: bytes of padding that Rust does not set");
+            }
             if *byte != due {
                 let rust = format!("{due:02X} at {place}; the archive {}", hex(&life.archive));
                 return Err(self.unlike(life, rust, format!("{byte:02X} at {place}; the archive {}", hex(archive))));
