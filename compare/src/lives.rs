@@ -365,10 +365,13 @@ impl Lives {
             }
         }
         let finished = *self.answers.last().unwrap();
-        let (length, alignment) =
-            (tally.number("finish: the length", finished.value), tally.number("finish: the alignment", finished.count));
-        let seen = life.alignment != 0;
-        if length != life.archive.len() as u64 || seen && alignment != life.alignment as u64 {
+        let length = tally.number("finish: the length", finished.value);
+        // Of an empty archive the original shows no alignment.
+        let alignment = match life.alignment {
+            0 => 0,
+            _ => tally.number("finish: the alignment", finished.count),
+        };
+        if length != life.archive.len() as u64 || alignment != life.alignment as u64 {
             let rust = format!("finish: {} {}", life.archive.len(), life.alignment);
             return Err(self.unlike(life, rust, format!("{length} {alignment}")));
         }
@@ -381,6 +384,9 @@ impl Lives {
             let due = if life.unknown[place] { 0 } else { life.archive[place] };
             if life.unknown[place] {
                 tally.count("left out: bytes of padding that Rust does not set");
+                if life.archive[place] != 0 {
+                    tally.count("left out: bytes of padding that Rust does not set, and that are not 0");
+                }
             }
             if *byte != due {
                 let rust = format!("{due:02X} at {place}; the archive {}", hex(&life.archive));
