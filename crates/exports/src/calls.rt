@@ -41,10 +41,6 @@ impl Use for Scan<'_> {
     fn with<K: Kind>(self, kind: &K) -> Outcome {
         Ok(kind.scan(self.sheet, 0)?.into())
     }
-
-    fn with_step<K: OneStep>(self, kind: &K) -> Outcome {
-        self.with(kind)
-    }
 }
 
 #[derive(Clone, Copy)]
@@ -56,10 +52,6 @@ impl Use for Shallow<'_> {
     fn with<K: Kind>(self, kind: &K) -> Outcome {
         Ok(is_valid(kind, self.0.archive, self.0.place)?.into())
     }
-
-    fn with_step<K: OneStep>(self, kind: &K) -> Outcome {
-        self.with(kind)
-    }
 }
 
 #[derive(Clone, Copy)]
@@ -70,10 +62,6 @@ impl Use for Deep<'_> {
 
     fn with<K: Kind>(self, kind: &K) -> Outcome {
         Ok(is_valid_deep(kind, self.0.archive, self.0.place)?.into())
-    }
-
-    fn with_step<K: OneStep>(self, kind: &K) -> Outcome {
-        self.with(kind)
     }
 }
 
@@ -115,9 +103,5 @@ impl Use for CopyOut<'_> {
     fn with<K: Kind>(self, kind: &K) -> Outcome {
         let CopyOut { root, output } = self;
         Ok(copy_out(kind, root.archive, root.place, output)?.into())
-    }
-
-    fn with_step<K: OneStep>(self, kind: &K) -> Outcome {
-        self.with(kind)
     }
 }

@@ -3,7 +3,7 @@ use crate::answer::{Told, Trouble};
 use crate::calls::{Name, made};
 use builder::ZeroBuilder;
 use catalogue::Use;
-use kind::{Kind, OneStep};
+use kind::Kind;
 
 #[derive(Clone, Copy)]
 pub enum Event<'a> {
@@ -74,9 +74,5 @@ impl Use for Waiting<'_> {
             KindEvent::Build(sheet) => builder.build(buffer, kind, sheet)?,
         };
         Ok(place.into())
-    }
-
-    fn with_step<K: OneStep>(self, kind: &K) -> Result<Told, Trouble> {
-        self.with(kind)
     }
 }
