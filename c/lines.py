@@ -6,6 +6,7 @@
 A life is run anew for each of its calls, and its last answer is told. Lines that the library has no call for are left out.
 """
 import ctypes
+import mmap
 import sys
 
 OLD = b"\xee"
@@ -166,13 +167,68 @@ def edges(library):
     return len(seen), not wrong
 
 
+def zeros(front, count):
+    """Bytes, and so many zeros behind them: memory that the system makes only where it is touched."""
+    room = mmap.mmap(-1, len(front) + count, mmap.MAP_PRIVATE | mmap.MAP_ANONYMOUS | getattr(mmap, "MAP_NORESERVE", 0x4000))
+    room[: len(front)] = front
+    return room
+
+
+def led(room, length):
+    """The first bytes of such memory as they cross."""
+    return (ctypes.c_void_p(ctypes.addressof(ctypes.c_char.from_buffer(room))), ctypes.c_size_t(length))
+
+
+def limits(library):
+    """Archives, buffers and sheets at the limit of 2^31 - 1 bytes, and one byte longer."""
+    limit = 2**31 - 1
+    number, text = (*sized(b"8"), ctypes.c_uint8(108)), (*sized(b"t"), ctypes.c_uint8(108))
+    room = zeros(b"", limit + 1)
+    whole, over = led(room, limit), led(room, limit + 1)
+    refused, sound = (1, 0, 0, 0, 0), lambda value: (0, 0, 0, value, 0)
+    output = ctypes.create_string_buffer(OLD * 10, 10)
+
+    def at(place):
+        return ctypes.c_size_t(place)
+
+    def life(buffer, calls):
+        told = (Answer * 2)()
+        ends = library.gachullpi_life(*calls, *buffer, told, ctypes.c_size_t(2))
+        return numbers(ends), numbers(told[0])
+
+    grows = encoded(["reserve_bytes", str(limit + 1), "1"])
+    front = encoded(["build", "8", "l", "-"])[:-8] + (limit + 1).to_bytes(8, "little")
+    long_sheet = zeros(front, limit + 1)
+    seen = [
+        (numbers(library.gachullpi_is_valid(*number, *over, at(0))), refused),
+        (numbers(library.gachullpi_is_valid(*number, *whole, at(limit - 15))), sound(limit - 15)),
+        (numbers(library.gachullpi_is_valid(*number, *whole, at(limit - 7))), (21, limit - 7, 0, 0, 0)),
+        (numbers(library.gachullpi_is_valid_deep(*text, *over, at(0))), refused),
+        (numbers(library.gachullpi_is_valid_deep(*text, *whole, at(0))), sound(0)),
+        (numbers(library.gachullpi_get(*text, *over, at(0))), refused),
+        (numbers(library.gachullpi_get(*text, *whole, at(limit - 15))), sound(limit - 11)),
+        (numbers(library.gachullpi_copy_out(*text, *over, at(0), output, ctypes.c_size_t(10))), refused),
+        (output.raw, OLD * 10),
+        (numbers(library.gachullpi_copy_out(*text, *whole, at(0), output, ctypes.c_size_t(10))), sound(6)),
+        (output.raw, b"TX" + bytes(4) + OLD * 4),
+        (life(over, sized(grows)), (refused, (0, 0, 0, 0, 0))),
+        (life(whole, sized(grows)), ((0, 0, 0, 1, len(grows)), (4, 0, 0, 0, 0))),
+        (life(led(room, 64), led(long_sheet, len(front) + limit + 1)), ((0, 0, 0, 1, len(front) + limit + 1), refused)),
+    ]
+    wrong = [(n, got, wanted) for n, (got, wanted) in enumerate(seen) if got != wanted]
+    for n, got, wanted in wrong:
+        print(f"limit {n}: expected {wanted}, answered {got}")
+    return len(seen), not wrong
+
+
 def main():
     library = ctypes.CDLL(sys.argv[1])
     for name in ("scan", "is_valid", "is_valid_deep", "get", "copy_out", "life"):
         getattr(library, "gachullpi_" + name).restype = Answer
     library.gachullpi_is_text.restype = ctypes.c_bool
     tried, right = edges(library)
-    if not right:
+    at_limit, kept = limits(library)
+    if not (right and kept):
         return 1
     desk = Desk(library)
     answered = left_out = 0
@@ -186,7 +242,7 @@ def main():
                 return 1
             else:
                 answered += 1
-    print(f"{answered} lines answered as by replay, {left_out} that the library has no call for; {tried} edges as the header has them")
+    print(f"{answered} lines answered as by replay, {left_out} that the library has no call for; {tried} edges as the header has them, and {at_limit} at the limit")
     return 0
 
 
