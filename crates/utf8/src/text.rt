@@ -21,8 +21,11 @@ impl Recogniser {
         ensures moved { (if result then stands self.new.position else broken) ≡ move (stands self.old.position) byte }
         ensures kept { result ≡ false → self.new ≡ self.old }
     {
+        // The most common move by a branch of its own, which a processor foresees: of such bytes none waits for the one before.
+        if self.at_start() && byte.is_ascii() {
+            return true;
+        }
         self.position = match (self.position, byte) {
-            (Position::Start, 0x00..=0x7f) => Position::Start,
             (Position::Start, 0xc2..=0xdf) => Position::One,
             (Position::Start, 0xe0) => Position::AfterE0,
             (Position::Start, 0xed) => Position::AfterEd,
