@@ -3,7 +3,7 @@ ghost use Rattle.format.specs.Texts.{text_kind};
 ghost use Rattle.format.specs.Archive.{text_step};
 ghost use Rattle.format.proofs.TextKindLaws.{text_laws};
 
-use crate::part::text_at;
+use crate::part::{part_at, text_at};
 use crate::sheet_text::{next_text, put_text, scan_text, sheet_length};
 use buffer::{STOP, put_at};
 use distance::lead;
@@ -73,7 +73,8 @@ impl<E: Endian> Kind for ZeroStr<E> {
     }
 
     fn copy(&self, archive: &[u8], at: usize, out: &mut [u8], to: usize) -> usize {
-        let text = text_at::<E>(archive, at).unwrap();
+        // A copy comes behind a deep check, which judged the text.
+        let text = part_at::<E>(archive, at).unwrap();
         put_text(out, to, marks::TX, text.bytes)
     }
 }

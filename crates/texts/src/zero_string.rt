@@ -7,7 +7,7 @@ ghost use Rattle.refusal.specs.Told.{told_by};
 ghost use Rattle.format.proofs.TextKindLaws.{inline_laws};
 
 use crate::cut::cut_length;
-use crate::part::inline_at;
+use crate::part::{inline_at, inline_part};
 use crate::sheet_text::{next_text, put_text, scan_text, sheet_length};
 use buffer::{put_at, put_zeros};
 use endian::order::Endian;
@@ -90,7 +90,8 @@ impl<E: Endian> Kind for ZeroString<E> {
     }
 
     fn copy(&self, archive: &[u8], at: usize, out: &mut [u8], to: usize) -> usize {
-        let text = inline_at::<E>(archive, at, self.capacity()).unwrap();
+        // A copy comes behind a deep check, which judged the text.
+        let text = inline_part::<E>(archive, at, self.capacity());
         put_text(out, to, marks::TI, text.bytes)
     }
 }
