@@ -63,6 +63,8 @@ accepts "the sample boat is built" "written to boat.plates" build "$sample" boat
 accepts "it is built once more, over what was there" "11 plates, equal to what was built" build "$sample" boat.plates
 [ ! -e boat.plates.part ]
 check "nothing is left beside" $?
+cmp -s boat.plates "$root/samples/boat.plates"
+check "it is the archive that is kept" $?
 accepts "it is sound" "boat.plates is sound: 11 plates in $(stat -c %s boat.plates) bytes" check boat.plates
 accepts "a plate is listed with its cast and its parts" "PL-2044-01  cast C-88431  cut: side shell 2 port, side shell 2 starboard, doubler 8" list boat.plates
 accepts "a plate of which nothing was cut is listed" "PL-2043-02  cast C-88420  nothing cut yet" list boat.plates

@@ -23,7 +23,9 @@ struct Row {
 }
 
 fn main() {
-    let rows = [of_texts(), of_numbers(), text_checks(), steps()].into_iter().flatten();
+    let (twelve, nothing) = (Words::Twelve, Words::Nothing);
+    let texts = [of_texts(twelve), of_texts(nothing)];
+    let rows = texts.into_iter().chain([of_numbers(), text_checks(), steps(twelve), steps(nothing)]).flatten();
     println!("| what | port | Rust | port/Rust | |\n|-|-|-|-|-|");
     for Row { what, port, rust, note } in rows {
         println!("| {what} | {} | {} | {:.2} | {note} |", told(port), told(rust), port.as_secs_f64() / rust.as_secs_f64());
@@ -178,13 +180,39 @@ fn head<T>(archive: &[u8]) -> &T {
     unsafe { &*archive.as_ptr().cast::<T>() }
 }
 
-fn sheet_of_texts(count: u32) -> Vec<u8> {
+/// What stands in a sheet of texts.
+#[derive(Clone, Copy)]
+enum Words {
+    /// Each of 12 bytes.
+    Twelve,
+    /// Nothing: there is no text to check.
+    Nothing,
+}
+
+impl Words {
+    fn text(self, i: u32) -> String {
+        match self {
+            Words::Twelve => format!("plate {i:06}"),
+            Words::Nothing => String::new(),
+        }
+    }
+
+    fn what(self) -> &'static str {
+        match self {
+            Words::Twelve => "texts of 12 bytes",
+            Words::Nothing => "texts of no bytes",
+        }
+    }
+}
+
+fn sheet_of_texts(count: u32, words: Words) -> Vec<u8> {
     let mut sheet = b"SL".to_vec();
     sheet.extend(count.to_le_bytes());
     for i in 0..count {
+        let text = words.text(i);
         sheet.extend(b"TX");
-        sheet.extend(12u32.to_le_bytes());
-        sheet.extend(format!("plate {i:06}").as_bytes());
+        sheet.extend((text.len() as u32).to_le_bytes());
+        sheet.extend(text.as_bytes());
     }
     sheet
 }
@@ -200,8 +228,8 @@ fn sheet_of_numbers(count: u32) -> Vec<u8> {
     sheet
 }
 
-fn of_texts() -> Vec<Row> {
-    of_slice::<ZeroStr<LittleEndian>>("st", "100,000 texts of 12 bytes", &sheet_of_texts(100_000)).0
+fn of_texts(words: Words) -> Vec<Row> {
+    of_slice::<ZeroStr<LittleEndian>>("st", &format!("100,000 {}", words.what()), &sheet_of_texts(100_000, words)).0
 }
 
 fn of_numbers() -> Vec<Row> {
@@ -228,10 +256,10 @@ fn text_checks() -> Vec<Row> {
 }
 
 /// Steps to texts in the middle of an archive of many, each at a place from dice.
-fn steps() -> Vec<Row> {
+fn steps(words: Words) -> Vec<Row> {
     const COUNT: u32 = 100_000;
     const STEPS: usize = 100_000;
-    let (_, mut page, _) = of_slice::<ZeroStr<LittleEndian>>("st", "", &sheet_of_texts(COUNT));
+    let (_, mut page, _) = of_slice::<ZeroStr<LittleEndian>>("st", "", &sheet_of_texts(COUNT, words));
     let archive: &[u8] = page.bytes();
     let mut dice = Dice::new(2);
     let places: Vec<usize> = (0..STEPS).map(|_| 8 + 8 * dice.below(COUNT as usize)).collect();
@@ -241,5 +269,6 @@ fn steps() -> Vec<Row> {
     assert_eq!(in_port(()), in_rust(()));
     let (port, rust) = in_turn(|| (), in_port, || (), in_rust);
     let each = (port / STEPS as u32, rust / STEPS as u32);
-    vec![row("`get` of one of 100,000 texts", each, "each of 100,000 at random; the port finds the kind by its name at each")]
+    let what = format!("`get` of one of 100,000 {}", words.what());
+    vec![row(what, each, "each of 100,000 at random; the port finds the kind by its name at each")]
 }
