@@ -22,8 +22,8 @@ struct Plan {
 }
 
 // Kind and sheet stay two parameters, as a caller of `build` hands them over: a pair would be made for these calls alone.
-// The test of the limit stands at each of the calls that give 1, three lines each: no crate that both this one and
-// `archive` know has both number and refusal.
+// The test of the limit stands at each of the calls that give 1, three lines each: one function for it would have to stand in `refusal`,
+// which would then know of buffers for its sake.
 // Where the value of a sheet ends that is all of the sheet.
 fn whole<K: Kind>(kind: &K, sheet: &[u8]) -> Result<usize, Refusal>
     ensures told { told result ≡ whole_by (K.Kind.meaning kind.now) sheet.now }

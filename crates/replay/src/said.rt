@@ -16,7 +16,7 @@ pub enum Said {
 #[derive(Clone, Copy)]
 struct Hexadecimal<'a>(&'a [u8]);
 
-// By hand: `hex` would take memory for it.
+// By hand: `hex` writes small letters, and the answers have capitals.
 impl fmt::Display for Hexadecimal<'_> {
     fn fmt<W: fmt::Write>(&self, f: &mut fmt::Formatter<W>) -> fmt::Result {
         if self.0.is_empty() {

@@ -10,8 +10,8 @@ use crate::Row;
 use kind::Kind;
 use refusal::Refusal;
 
-// These stay loops over the index: a step may be refused, or writes behind what the last one wrote, and the invariant of a loop says what
-// stands after each. With places by `step_by` the invariant would have to divide by an item's size.
+// These stay loops over the index: the invariant of a loop says what stands after each step, where a step of `try_fold` would have to
+// carry it along, and one that writes does so behind what the last one wrote. With places by `step_by` it would have to divide by a size.
 impl<K: Kind> Row<'_, K> {
     // One look at each head in turn: the place behind the last, or the first fault.
     pub fn shallow(&self, archive: &[u8], at: usize) -> Result<usize, Refusal>

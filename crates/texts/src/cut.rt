@@ -19,7 +19,8 @@ pub fn cut_length(bytes: &[u8], capacity: usize) -> usize
     if bytes.len() <= capacity {
         return bytes.len();
     }
-    // No `rposition` over the bytes from 1 on: what it finds counts from there, and is none where the cut is empty; both would be turned back.
+    // A loop, whose invariant says what the bytes that were passed over are. With `find` over the same range that was not shown; and what
+    // `rposition` over the bytes from 1 on finds counts from there, so it would be turned back.
     for end in (1..=capacity).rev() {
         if !goes_on(bytes[end]) {
             return end;

@@ -10,5 +10,6 @@ mod zero_str;
 mod zero_string;
 
 pub use kind::Part;
+pub use part::{inline_at, text_at};
 pub use zero_str::ZeroStr;
 pub use zero_string::ZeroString;

@@ -47,7 +47,7 @@ pub(crate) fn part_at<E: Endian>(archive: &[u8], at: usize) -> Result<Part<'_>, 
 }
 
 // The text of the head at a place.
-pub(crate) fn text_at<E: Endian>(archive: &[u8], at: usize) -> Result<Part<'_>, Refusal>
+pub fn text_at<E: Endian>(archive: &[u8], at: usize) -> Result<Part<'_>, Refusal>
     requires { (at + 8 ≤ length archive.now) × (length archive.now ≤ limit) }
     ensures told { told_by part_of result ≡ text_at E.Endian.order archive.now at }
     ensures within { IfOk result (λ x. x.place + length x.bytes.now ≤ length archive.now) }
@@ -70,11 +70,7 @@ pub(crate) fn inline_part<E: Endian>(archive: &[u8], at: usize, capacity: usize)
 }
 
 // The inline text of the head at a place.
-pub(crate) fn inline_at<E: Endian>(
-    archive: &[u8],
-    at: usize,
-    capacity: usize,
-) -> Result<Part<'_>, Refusal>
+pub fn inline_at<E: Endian>(archive: &[u8], at: usize, capacity: usize) -> Result<Part<'_>, Refusal>
     requires { at + 4 + capacity ≤ length archive.now }
     ensures told { told_by part_of result ≡ inline_at_by capacity E.Endian.order archive.now at }
     ensures within { IfOk result (λ x. x.place + length x.bytes.now ≤ length archive.now) }

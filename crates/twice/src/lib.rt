@@ -37,6 +37,7 @@ impl Kind for TwiceByte {
         (tail, 1)
     }
 
+    #[tactic(auto, using(crate::proofs::Rooms::room))]
     fn fill(
         &self,
         sheet: &[u8],

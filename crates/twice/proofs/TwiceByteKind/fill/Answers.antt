@@ -13,15 +13,6 @@ use Rattle.twice.proofs.TwiceByteKind.fill.Goals as goal
 one_byte : (s : List ℕ) (q : ℕ) → q < length s → number (part q 1 s) ≡ get_or s q 0
 one_byte s q h = ap (λ z. number (take 1 z)) (drop_more s q 0 h) ∙ (let e : get_or s q 0 + 256 * 0 ≡ get_or s q 0 = omega arith in e)
 
-pub overflow_add-byte : goal.overflow_add-byte
-overflow_add-byte c = let f = found twice_mark 1 any c.args.sheet.now c.args.at.now c.requires.next c.requires.found in omega arith
-
-pub bounds-sheet-at : goal.bounds-sheet-at
-bounds-sheet-at c = let f = found twice_mark 1 any c.args.sheet.now c.args.at.now c.requires.next c.requires.found in omega arith
-
-pub overflow_add-at : goal.overflow_add-at
-overflow_add-at c = let f = found twice_mark 1 any c.args.sheet.now c.args.at.now c.requires.next c.requires.found in omega arith
-
 pub returns : goal.returns
 returns c =
     let s = c.args.sheet.now in
