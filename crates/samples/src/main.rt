@@ -122,7 +122,8 @@ impl Check<'_> {
         }
     }
 
-    // Of a named kind, in a byte order; inline text has the capacity 4.
+    // Of a named kind, in a byte order; inline text has the capacity 4. Not through `catalogue`: the names are the marks of the eight kinds
+    // without items, and the program would be built for all of the catalogue's.
     fn of_named<E: Endian>(self, name: &str) -> Result<usize, Refusal> {
         match name {
             "N1" => self.of(&ScalarKind::<Number<Width1>, E>::new()),
