@@ -1,5 +1,5 @@
 -- The use of a name, by that of a part of it, and by one list of forms after another. Assumes nothing.
-use Rattle.std.proofs.Common.{◌≡◌, ℕ, List, ◌++◌, Option, Some, None, Result, Ok, Err, refl, sym, ap, ◌∙◌, subst}
+use Rattle.std.proofs.Common.{◌≡◌, ℕ, List, ◌++◌, Option, Some, None, Result, Err, refl, sym, ap, ◌∙◌, subst}
 use Rattle.std.specs.Option.{option_map, option_or}
 use Rattle.std.specs.Cmp.Lexicographic.{pointwise}
 use Rattle.std.proofs.lemmas.List.Folds.{find-append}
@@ -12,7 +12,7 @@ use Rattle.format.specs.Archive.{inline_step}
 use Rattle.naming.specs.Forms.{Form, array, inline, spelled, named_among}
 use Rattle.naming.specs.Senses.{Sense, leading, arrayed, meant}
 use Rattle.catalogue.specs.declared.missing.Missing.{Missing}
-use Rattle.catalogue.specs.declared.missing.Missing.TheVariants.{NoKind, Refused}
+use Rattle.catalogue.specs.declared.missing.Missing.TheVariants.{NoKind}
 use Rattle.catalogue.specs.Used.{Used}
 
 through : {A B C : Type 0} (f : B → C) (g : A → B) (o : Option A) → option_map (λ a. f (g a)) o ≡ option_map f (option_map g o)

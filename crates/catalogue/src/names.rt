@@ -132,7 +132,9 @@ impl Part for Deep {
     ghost forms = { deeper };
 
     fn run<H: Hold, E: Endian, U: Use>(name: &[u8], purpose: &mut U) -> Result<U::Answer, Missing> {
-        if name == b"pp8".as_slice() {
+        if name == b"psst".as_slice() {
+            Sliced::<Sliced<Pointed<H>>>::run::<_, E, U>(ZeroStr::<E>::new(), purpose)
+        } else if name == b"pp8".as_slice() {
             Pointed::<Pointed<H>>::run::<_, E, U>(Number8::<E>::new(), purpose)
         } else if name == b"ss8".as_slice() {
             Sliced::<Sliced<H>>::run::<_, E, U>(Number8::<E>::new(), purpose)
@@ -164,8 +166,6 @@ impl Part for Deep {
             Sliced::<Arrayed<Pointed<H>, 2>>::run::<_, E, U>(ZeroStr::<E>::new(), purpose)
         } else if name == b"spst".as_slice() {
             Sliced::<Pointed<Sliced<H>>>::run::<_, E, U>(ZeroStr::<E>::new(), purpose)
-        } else if name == b"psst".as_slice() {
-            Sliced::<Sliced<Pointed<H>>>::run::<_, E, U>(ZeroStr::<E>::new(), purpose)
         } else {
             Err(Missing::NoKind)
         }

@@ -2,7 +2,6 @@
 use Rattle.std.proofs.Common.{◌≡◌, ℕ, List, Option, Some, None, Result, Ok, Err, refl, sym, ap, ◌∙◌, subst}
 use Rattle.format.specs.Answers as answers
 use Rattle.format.specs.Answers.{good, bad}
-use Rattle.refusal.specs.Told.{fault_of}
 use Rattle.naming.specs.Senses.{Sense, sense_of}
 use Rattle.catalogue.specs.Orders.{order_of}
 use Rattle.catalogue.specs.Used.{Used}
@@ -14,7 +13,8 @@ use Rattle.exports.specs.declared.answer.Told.{Told}
 use Rattle.exports.specs.declared.answer.Trouble.{Trouble}
 use Rattle.exports.specs.Numbers.{answer_of, trouble_of, refused}
 use Rattle.exports.specs.declared.calls.CopyOut.{CopyOut}
-use Rattle.exports.specs.Answering.{Made, MadeIn, Copied, copied, Copies, of_sense, of_order}
+use Rattle.exports.specs.Answering.{Copied, copied, of_sense, of_order}
+use Rattle.exports.specs.Making.{Made, MadeIn, Copies}
 
 module _ {U : Type 0} (tells : U → Sense → Result Told Trouble → U → Type 0) (u : U) (r : Result Told Trouble) (v : U) where
   pub made_ok : (s : Option (answers.Answer Sense)) → Used tells s u (Ok r) v → Made tells u r v s

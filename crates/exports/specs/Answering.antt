@@ -1,5 +1,5 @@
 -- What the calls on sheets and archives answer, by the name of a kind and the letter of a byte order. Assumes nothing.
-use Rattle.std.specs.Prelude.{◌≡◌, ℕ, List, length, Option, Some, None, Result}
+use Rattle.std.specs.Prelude.{ℕ, List, length, Option, Some, None}
 use Rattle.format.specs.Answers as answers
 use Rattle.format.specs.Answers.{good, bad, both}
 use Rattle.format.specs.Archive as archives
@@ -9,9 +9,7 @@ use Rattle.catalogue.specs.Orders.{order_of, order_named}
 use Rattle.catalogue.specs.declared.order.Order.{Order}
 use Rattle.exports.specs.declared.answer.Answer.{Answer}
 use Rattle.exports.specs.declared.answer.Told.{Told}
-use Rattle.exports.specs.declared.answer.Trouble.{Trouble}
-use Rattle.exports.specs.declared.calls.CopyOut.{CopyOut}
-use Rattle.exports.specs.Numbers.{in_numbers, refused, unmade, answer_of}
+use Rattle.exports.specs.Numbers.{in_numbers, refused, unmade}
 
 -- a call that tells one number
 abbrev pub one : answers.Answer ℕ → Answer
@@ -33,6 +31,7 @@ of_found (found_target p) = record { value = p; count = 0 }
 of_found (found_items s) = record { value = s.place; count = s.count }
 of_found (found_text x) = record { value = x.place; count = length x.bytes }
 
+-- one step, which a kind that leads nowhere has not
 abbrev pub stepped_by : Option (List ℕ → ℕ → answers.Answer archives.Found) → List ℕ → ℕ → Sense → Answer
 stepped_by None archive place k = unmade 102
 stepped_by (Some step) archive place k = in_numbers (both (archives.get k.meaning step archive place) (λ f. good (of_found f)))
@@ -54,6 +53,7 @@ of_sense otherwise call None = otherwise (unmade 100)
 of_sense otherwise call (Some (bad f)) = otherwise (refused f)
 of_sense otherwise call (Some (good k)) = call k
 
+-- the order is asked for first
 abbrev pub of_order : {A : Type 0} → (Answer → A) → (Sense → A) → List ℕ → Option Order → A
 of_order otherwise call name None = otherwise (unmade 101)
 of_order otherwise call name (Some o) = of_sense otherwise call (sense_of (order_of o) name)
@@ -65,18 +65,3 @@ answers_by call name letter = of_order (λ a. a) call name (order_named letter)
 -- the same of a copy: without a kind the output stays
 abbrev pub copies_by : (List ℕ → Sense → Copied) → List ℕ → List ℕ → ℕ → Copied
 copies_by call out name letter = of_order (λ a. record { answer = a; output = out }) (call out) name (order_named letter)
-
--- what the code makes of it: a use `u`, left as `v`, tells the outcome for a kind
-abbrev pub Made : {U : Type 0} → (U → Sense → Result Told Trouble → U → Type 0) → U → Result Told Trouble → U → Option (answers.Answer Sense) → Type 0
-Made tells u r v None = (answer_of r ≡ unmade 100) × (v ≡ u)
-Made tells u r v (Some (bad f)) = (answer_of r ≡ refused f) × (v ≡ u)
-Made tells u r v (Some (good k)) = tells u k r v
-
-abbrev pub MadeIn : {U : Type 0} → (U → Sense → Result Told Trouble → U → Type 0) → U → Result Told Trouble → U → List ℕ → Option Order → Type 0
-MadeIn tells u r v name None = (answer_of r ≡ unmade 101) × (v ≡ u)
-MadeIn tells u r v name (Some o) = Made tells u r v (sense_of (order_of o) name)
-
--- what the use of a copy tells: the output is still the one that was lent
-abbrev pub Copies : CopyOut → Sense → Result Told Trouble → CopyOut → Type 0
-Copies u k r v =
-    (record { answer = answer_of r; output = v.output.now } ≡ copied u.root.archive.now u.root.place u.output.now k) × (v.output.ghost_name ≡ u.output.ghost_name)

@@ -4,7 +4,8 @@ ghost use Rattle.catalogue.specs.Orders.{order_named};
 ghost use Rattle.exports.specs.declared.answer.Told.{Told};
 ghost use Rattle.exports.specs.declared.answer.Trouble.{Trouble};
 ghost use Rattle.exports.specs.Numbers.{answer_of};
-ghost use Rattle.exports.specs.Answering.{scanned, checked, checked_deeply, stepped, Copies, MadeIn};
+ghost use Rattle.exports.specs.Answering.{scanned, checked, checked_deeply, stepped};
+ghost use Rattle.exports.specs.Making.{Copies, MadeIn};
 
 use crate::answer::{Answer, NotMade, Told, Trouble};
 use archive::{copy_out, get, is_valid, is_valid_deep};

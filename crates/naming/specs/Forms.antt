@@ -3,7 +3,7 @@ use Rattle.std.specs.Prelude.{ℕ, zero, suc, ◌+◌, ◌/◌, ◌%◌, cond, L
 use Rattle.std.specs.List.{find}
 use Rattle.std.specs.Cmp.Lexicographic.{pointwise}
 
--- a kind by its parts: numbers of so many bytes, and inline texts of a capacity; the others of the last four lines hold what follows
+-- a kind by its parts: a number of so many bytes, an inline text of a capacity; the last four hold another kind, arrays so many of it
 pub data Form : Type 0 where
   number : ℕ → Form
   truth : Form
@@ -24,6 +24,7 @@ decimal_in (suc w) n = cond (nat_lt n 10) ((48 + n) ∷ []) (decimal_in w (n / 1
 abbrev pub decimal : ℕ → List ℕ
 decimal = decimal_in 5
 
+-- the name of a kind, the outermost part first
 abbrev pub spelled : Form → List ℕ
 spelled (number w) = decimal w
 spelled truth = codes "b"
@@ -35,27 +36,27 @@ spelled (array n f) = codes "r" ++ (decimal n ++ (codes "." ++ spelled f))
 spelled (far_array n f) = codes "a" ++ (decimal n ++ (codes "." ++ spelled f))
 spelled (slice f) = codes "s" ++ spelled f
 
--- the kinds that hold none, but for a few inline texts
+-- the kinds that hold none, of inline texts those of two capacities
 abbrev pub leaves : List Form
 leaves = number 1 ∷ number 2 ∷ number 4 ∷ number 8 ∷ truth ∷ character ∷ text ∷ inline 2 ∷ inline 5 ∷ []
 
--- each of these held by each kind that holds: arrays of 2, and far arrays of 3
+-- each of these kinds held by each that holds one: an array has 2 of it, a far array 3
 abbrev pub held : List Form → List Form
 held fs = map pointer fs ++ (map (array 2) fs ++ (map (far_array 3) fs ++ map slice fs))
 
--- few are held by two
+-- the leaves, alone, held by one and, two of them, held by two
 abbrev pub shallow : List Form
 shallow = leaves ++ held (leaves ++ held (number 2 ∷ text ∷ []))
 
+-- some that are deeper, and a few like those above
 abbrev pub deeper : List Form
 deeper =
-    pointer (pointer (number 8)) ∷ slice (slice (number 8)) ∷ inline 4 ∷ array 2 (pointer truth) ∷ pointer (pointer (pointer (number 1)))
+    pointer (slice (slice text)) ∷ pointer (pointer (number 8)) ∷ slice (slice (number 8)) ∷ inline 4 ∷ array 2 (pointer truth) ∷ pointer (pointer (pointer (number 1)))
     ∷ slice (slice (slice (number 2))) ∷ slice (pointer (slice truth)) ∷ array 2 (slice (array 2 character)) ∷ slice (far_array 3 (array 2 (number 8)))
     ∷ slice (slice (array 2 (number 1))) ∷ far_array 3 (far_array 3 (far_array 3 (number 1))) ∷ array 2 (array 2 (array 2 truth))
-    ∷ far_array 3 (pointer (slice text)) ∷ pointer (slice (far_array 3 (inline 5))) ∷ pointer (array 2 (slice text)) ∷ slice (pointer (slice text))
-    ∷ pointer (slice (slice text)) ∷ []
+    ∷ far_array 3 (pointer (slice text)) ∷ pointer (slice (far_array 3 (inline 5))) ∷ pointer (array 2 (slice text)) ∷ slice (pointer (slice text)) ∷ []
 
--- 65,535 of these
+-- an array of 65,535 of a kind
 abbrev pub most : Form → Form
 most = array 65535
 
@@ -65,17 +66,18 @@ vast =
     most (most (number 8)) ∷ slice (most (most (number 8))) ∷ most (most (most (most (number 8)))) ∷ pointer (most (most (most (most (number 8)))))
     ∷ slice (most (most (most (most (number 8))))) ∷ array 32767 (inline 65535) ∷ []
 
--- counts and a capacity that no kind has
+-- counts and a capacity that no kind has: these names are known, and refused
 abbrev pub bad_counts : List Form
 bad_counts = array 0 (number 1) ∷ far_array 65536 (number 1) ∷ inline 0 ∷ []
 
--- all that can be named
+-- all that can be named, in the order in which a name is looked for
 abbrev pub catalogue : List Form
 catalogue = shallow ++ (deeper ++ (vast ++ bad_counts))
 
--- which of these is spelled so
+-- the first of these that is spelled so, if one is
 abbrev pub named_among : List Form → List ℕ → Option Form
 named_among fs name = find (λ f. pointwise nat_eq name (spelled f)) fs
 
+-- the kind of a name, if the catalogue has it
 abbrev pub form_of : List ℕ → Option Form
 form_of = named_among catalogue

@@ -15,6 +15,7 @@ pub record Sense : Type 0 where
   pub meaning : Meaning
   pub step : Option (List ℕ → ℕ → Answer Found)
 
+-- a kind that leads nowhere, and one that leads somewhere
 abbrev pub plain : Meaning → Sense
 plain m = record { meaning = m; step = None }
 

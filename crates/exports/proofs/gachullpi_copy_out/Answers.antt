@@ -1,4 +1,4 @@
-use Rattle.std.proofs.Common.{◌∙◌, rules}
+use Rattle.std.proofs.Common.{rules}
 use Rattle.catalogue.specs.Orders.{order_named}
 use Rattle.exports.proofs.AnsweringLaws.{copied_end}
 use Rattle.exports.proofs.gachullpi_copy_out.Goals as goal

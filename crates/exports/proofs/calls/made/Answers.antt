@@ -2,7 +2,7 @@ use Rattle.std.proofs.Common.{◌≡◌, Some, Err, sym, ap, ◌∙◌, subst, r
 use Rattle.std.proofs.lemmas.Result.{err_from_is_err_and}
 use Rattle.naming.specs.Senses.{sense_of}
 use Rattle.catalogue.specs.Orders.{order_of, order_named}
-use Rattle.exports.specs.Answering.{MadeIn}
+use Rattle.exports.specs.Making.{MadeIn}
 use Rattle.exports.proofs.AnsweringLaws.{made_ok, made_err}
 use Rattle.exports.proofs.calls.made.Goals as goal
 

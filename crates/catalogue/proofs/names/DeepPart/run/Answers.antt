@@ -8,4 +8,4 @@ returns-in_ok-new-2 g c =
     let named : c.args.name.now ≡ codes "psa3.i5." = same_text _ _ (search rules) in
     let told : good c.in_ok-new-2.field-0.capacity.value ≡ good 5 = c.in_ok-new-2.ensures in
     let capacity : c.in_ok-new-2.field-0.capacity.value ≡ 5 = cc told in
-    rw named (rw capacity at c.run-then-eq-14.ensures)
+    rw named (rw capacity at c.run-then-eq-15.ensures)

@@ -1,4 +1,3 @@
-use Rattle.std.proofs.Common.{rules}
 use Rattle.naming.specs.Senses.{meant}
 use Rattle.catalogue.proofs.UsedLaws.{sense_either, used_first, used_second}
 use Rattle.catalogue.proofs.names.OrPart.run.Goals as goal

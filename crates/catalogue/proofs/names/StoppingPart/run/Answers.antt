@@ -1,6 +1,6 @@
-use Rattle.std.proofs.Common.{◌≡◌, rules, codes, refl, Some}
+use Rattle.std.proofs.Common.{◌≡◌, rules, codes, refl}
 use Rattle.std.specs.Cmp.Lexicographic.{same_text}
-use Rattle.naming.specs.Forms.{vast, named_among, array, inline}
+use Rattle.naming.specs.Forms.{vast, named_among}
 use Rattle.catalogue.proofs.UsedLaws.{used_inline_array}
 use Rattle.catalogue.proofs.names.StoppingPart.run.Goals as goal
 
