@@ -1,5 +1,5 @@
 // The catalogue: the kinds that can be named while a program runs. A kind is a type and is compiled for itself, so a name chooses among those that
-// stand here. Which one it chooses no contract says, since a contract can't name a type by its text: that is tested, by the lines of `replay`.
+// stand here. Which one it means is said in `naming`.
 #![tactic(auto)]
 
 mod holders;
@@ -7,6 +7,7 @@ mod missing;
 mod names;
 mod order;
 mod purpose;
+mod usable;
 
 pub use missing::Missing;
 pub use names::with_kind;

@@ -1,4 +1,13 @@
 // The kinds that a name can tell, outermost first: each leaf; each holding kind over each leaf; two holding kinds over some leaves; and some that are deeper.
+ghost use Rattle.std.specs.Prelude.{◌≡◌, List, [], ◌∷◌, ◌++◌, MatchOption};
+ghost use Rattle.std.specs.Option.{option_map};
+ghost use Rattle.naming.specs.Forms.{Form, number, text, leaves, held, deeper, vast, bad_counts, named_among};
+ghost use Rattle.naming.specs.Senses.{meant, sense_of};
+ghost use Rattle.naming.proofs.Naming.{NoneHolds};
+ghost use Rattle.catalogue.specs.Fronts.{letters};
+ghost use Rattle.catalogue.specs.Orders.{order_of};
+ghost use Rattle.catalogue.specs.Used.{Used};
+
 use crate::holders::{Alone, Arrayed, Far, Hold, Pointed, Sliced};
 use crate::missing::Missing;
 use crate::order::Order;
@@ -33,15 +42,21 @@ type Truths<E> = ScalarKind<Truth, E>;
 
 type Characters<E> = ScalarKind<Character, E>;
 
-// What a part of a name stands for, held by what the name has before it.
+// Some of the kinds that can be named.
 trait Part {
-    fn run<H: Hold, E: Endian, U: Use>(name: &[u8], purpose: U) -> Result<U::Answer, Missing>;
+    ghost forms: { List Form };
+
+    // Uses the one of them that has this name, held by what the whole name has before it.
+    fn run<H: Hold, E: Endian, U: Use>(name: &[u8], purpose: &mut U) -> Result<U::Answer, Missing>
+        ensures { Used U.tells (option_map (λ f. H.Hold.holds E.Endian.order (meant E.Endian.order f)) (named_among forms name.now)) purpose.old result purpose.new };
 }
 
 struct Leaf;
 
 impl Part for Leaf {
-    fn run<H: Hold, E: Endian, U: Use>(name: &[u8], purpose: U) -> Result<U::Answer, Missing> {
+    ghost forms = { leaves };
+
+    fn run<H: Hold, E: Endian, U: Use>(name: &[u8], purpose: &mut U) -> Result<U::Answer, Missing> {
         match name {
             b"1" => H::run::<_, E, U>(Number1::<E>::new(), purpose),
             b"2" => H::run::<_, E, U>(Number2::<E>::new(), purpose),
@@ -49,9 +64,9 @@ impl Part for Leaf {
             b"8" => H::run::<_, E, U>(Number8::<E>::new(), purpose),
             b"b" => H::run::<_, E, U>(Truths::<E>::new(), purpose),
             b"c" => H::run::<_, E, U>(Characters::<E>::new(), purpose),
-            b"t" => H::run_step::<_, E, U>(ZeroStr::<E>::new(), purpose),
-            b"i2." => H::run_step::<_, E, U>(ZeroString::<E>::new(2)?, purpose),
-            b"i5." => H::run_step::<_, E, U>(ZeroString::<E>::new(5)?, purpose),
+            b"t" => H::run::<_, E, U>(ZeroStr::<E>::new(), purpose),
+            b"i2." => H::run::<_, E, U>(ZeroString::<E>::new(2)?, purpose),
+            b"i5." => H::run::<_, E, U>(ZeroString::<E>::new(5)?, purpose),
             _ => Err(Missing::NoKind),
         }
     }
@@ -61,12 +76,35 @@ impl Part for Leaf {
 struct DeepLeaf;
 
 impl Part for DeepLeaf {
-    fn run<H: Hold, E: Endian, U: Use>(name: &[u8], purpose: U) -> Result<U::Answer, Missing> {
+    ghost forms = { number 2 ∷ text ∷ [] };
+
+    fn run<H: Hold, E: Endian, U: Use>(name: &[u8], purpose: &mut U) -> Result<U::Answer, Missing> {
         match name {
             b"2" => H::run::<_, E, U>(Number2::<E>::new(), purpose),
-            b"t" => H::run_step::<_, E, U>(ZeroStr::<E>::new(), purpose),
+            b"t" => H::run::<_, E, U>(ZeroStr::<E>::new(), purpose),
             _ => Err(Missing::NoKind),
         }
+    }
+}
+
+// What holds the rest of a name, by the letters at its front.
+#[derive(Clone, Copy)]
+enum Front {
+    Pointer,
+    Array,
+    Far,
+    Slice,
+}
+
+fn split_front(name: &[u8]) -> Option<(Front, &[u8])>
+    ensures { MatchOption result (NoneHolds name.now) (λ x. name.now ≡ letters x.0 ++ x.1.now) }
+{
+    match name {
+        [b'p', rest @ ..] => Some((Front::Pointer, rest)),
+        [b'r', b'2', b'.', rest @ ..] => Some((Front::Array, rest)),
+        [b'a', b'3', b'.', rest @ ..] => Some((Front::Far, rest)),
+        [b's', rest @ ..] => Some((Front::Slice, rest)),
+        _ => None,
     }
 }
 
@@ -74,90 +112,135 @@ impl Part for DeepLeaf {
 struct Layer<P: Part>(PhantomData<P>);
 
 impl<P: Part> Part for Layer<P> {
-    fn run<H: Hold, E: Endian, U: Use>(name: &[u8], purpose: U) -> Result<U::Answer, Missing> {
-        match name {
-            [b'p', rest @ ..] => P::run::<Pointed<H>, E, U>(rest, purpose),
-            [b'r', b'2', b'.', rest @ ..] => P::run::<Arrayed<H, 2>, E, U>(rest, purpose),
-            [b'a', b'3', b'.', rest @ ..] => P::run::<Far<H, 3>, E, U>(rest, purpose),
-            [b's', rest @ ..] => P::run::<Sliced<H>, E, U>(rest, purpose),
-            _ => Leaf::run::<H, E, U>(name, purpose),
+    ghost forms = { leaves ++ held P.forms };
+
+    fn run<H: Hold, E: Endian, U: Use>(name: &[u8], purpose: &mut U) -> Result<U::Answer, Missing> {
+        match split_front(name) {
+            Some((Front::Pointer, rest)) => P::run::<Pointed<H>, E, U>(rest, purpose),
+            Some((Front::Array, rest)) => P::run::<Arrayed<H, 2>, E, U>(rest, purpose),
+            Some((Front::Far, rest)) => P::run::<Far<H, 3>, E, U>(rest, purpose),
+            Some((Front::Slice, rest)) => P::run::<Sliced<H>, E, U>(rest, purpose),
+            None => Leaf::run::<H, E, U>(name, purpose),
         }
     }
 }
 
-// Some kinds by their whole names, where what holds a leaf stands first here, and last in the name; else a kind of up to three deep.
-fn named<E: Endian, U: Use>(name: &[u8], purpose: U) -> Result<U::Answer, Missing> {
-    match name {
-        b"pp8" => Pointed::<Pointed<Alone>>::run::<_, E, U>(Number8::<E>::new(), purpose),
-        b"ss8" => Sliced::<Sliced<Alone>>::run::<_, E, U>(Number8::<E>::new(), purpose),
-        b"r65535.r65535.8" => {
-            Arrayed::<Arrayed<Alone, MOST>, MOST>::run::<_, E, U>(Number8::<E>::new(), purpose)
+// Some kinds by their whole names, where what holds a leaf stands first here, and last in the name.
+struct Deep;
+
+impl Part for Deep {
+    ghost forms = { deeper };
+
+    fn run<H: Hold, E: Endian, U: Use>(name: &[u8], purpose: &mut U) -> Result<U::Answer, Missing> {
+        if name == b"psst".as_slice() {
+            Sliced::<Sliced<Pointed<H>>>::run::<_, E, U>(ZeroStr::<E>::new(), purpose)
+        } else if name == b"pp8".as_slice() {
+            Pointed::<Pointed<H>>::run::<_, E, U>(Number8::<E>::new(), purpose)
+        } else if name == b"ss8".as_slice() {
+            Sliced::<Sliced<H>>::run::<_, E, U>(Number8::<E>::new(), purpose)
+        } else if name == b"i4.".as_slice() {
+            H::run::<_, E, U>(ZeroString::<E>::new(4)?, purpose)
+        } else if name == b"r2.pb".as_slice() {
+            Pointed::<Arrayed<H, 2>>::run::<_, E, U>(Truths::<E>::new(), purpose)
+        } else if name == b"ppp1".as_slice() {
+            Pointed::<Pointed<Pointed<H>>>::run::<_, E, U>(Number1::<E>::new(), purpose)
+        } else if name == b"sss2".as_slice() {
+            Sliced::<Sliced<Sliced<H>>>::run::<_, E, U>(Number2::<E>::new(), purpose)
+        } else if name == b"spsb".as_slice() {
+            Sliced::<Pointed<Sliced<H>>>::run::<_, E, U>(Truths::<E>::new(), purpose)
+        } else if name == b"r2.sr2.c".as_slice() {
+            Arrayed::<Sliced<Arrayed<H, 2>>, 2>::run::<_, E, U>(Characters::<E>::new(), purpose)
+        } else if name == b"sa3.r2.8".as_slice() {
+            Arrayed::<Far<Sliced<H>, 3>, 2>::run::<_, E, U>(Number8::<E>::new(), purpose)
+        } else if name == b"ssr2.1".as_slice() {
+            Arrayed::<Sliced<Sliced<H>>, 2>::run::<_, E, U>(Number1::<E>::new(), purpose)
+        } else if name == b"a3.a3.a3.1".as_slice() {
+            Far::<Far<Far<H, 3>, 3>, 3>::run::<_, E, U>(Number1::<E>::new(), purpose)
+        } else if name == b"r2.r2.r2.b".as_slice() {
+            Arrayed::<Arrayed<Arrayed<H, 2>, 2>, 2>::run::<_, E, U>(Truths::<E>::new(), purpose)
+        } else if name == b"a3.pst".as_slice() {
+            Sliced::<Pointed<Far<H, 3>>>::run::<_, E, U>(ZeroStr::<E>::new(), purpose)
+        } else if name == b"psa3.i5.".as_slice() {
+            Far::<Sliced<Pointed<H>>, 3>::run::<_, E, U>(ZeroString::<E>::new(5)?, purpose)
+        } else if name == b"pr2.st".as_slice() {
+            Sliced::<Arrayed<Pointed<H>, 2>>::run::<_, E, U>(ZeroStr::<E>::new(), purpose)
+        } else if name == b"spst".as_slice() {
+            Sliced::<Pointed<Sliced<H>>>::run::<_, E, U>(ZeroStr::<E>::new(), purpose)
+        } else {
+            Err(Missing::NoKind)
         }
-        b"sr65535.r65535.8" => Arrayed::<Arrayed<Sliced<Alone>, MOST>, MOST>::run::<_, E, U>(
-            Number8::<E>::new(),
-            purpose,
-        ),
-        b"r65535.r65535.r65535.r65535.8" => {
-            Vast::<Alone>::run::<_, E, U>(Number8::<E>::new(), purpose)
-        }
-        b"pr65535.r65535.r65535.r65535.8" => {
-            Vast::<Pointed<Alone>>::run::<_, E, U>(Number8::<E>::new(), purpose)
-        }
-        b"sr65535.r65535.r65535.r65535.8" => {
-            Vast::<Sliced<Alone>>::run::<_, E, U>(Number8::<E>::new(), purpose)
-        }
-        b"r32767.i65535." => Arrayed::<Alone, MANY>::run::<_, E, U>(
-            ZeroString::<E>::new(MOST as usize)?,
-            purpose,
-        ),
-        b"r0.1" => Arrayed::<Alone, 0>::run::<_, E, U>(Number1::<E>::new(), purpose),
-        b"a65536.1" => Far::<Alone, OVER>::run::<_, E, U>(Number1::<E>::new(), purpose),
-        b"i0." => Alone::run_step::<_, E, U>(ZeroString::<E>::new(0)?, purpose),
-        b"i4." => Alone::run_step::<_, E, U>(ZeroString::<E>::new(4)?, purpose),
-        b"r2.pb" => Pointed::<Arrayed<Alone, 2>>::run::<_, E, U>(Truths::<E>::new(), purpose),
-        b"ppp1" => Pointed::<Pointed<Pointed<Alone>>>::run::<_, E, U>(Number1::<E>::new(), purpose),
-        b"sss2" => Sliced::<Sliced<Sliced<Alone>>>::run::<_, E, U>(Number2::<E>::new(), purpose),
-        b"spsb" => Sliced::<Pointed<Sliced<Alone>>>::run::<_, E, U>(Truths::<E>::new(), purpose),
-        b"r2.sr2.c" => {
-            Arrayed::<Sliced<Arrayed<Alone, 2>>, 2>::run::<_, E, U>(Characters::<E>::new(), purpose)
-        }
-        b"sa3.r2.8" => {
-            Arrayed::<Far<Sliced<Alone>, 3>, 2>::run::<_, E, U>(Number8::<E>::new(), purpose)
-        }
-        b"ssr2.1" => {
-            Arrayed::<Sliced<Sliced<Alone>>, 2>::run::<_, E, U>(Number1::<E>::new(), purpose)
-        }
-        b"a3.a3.a3.1" => {
-            Far::<Far<Far<Alone, 3>, 3>, 3>::run::<_, E, U>(Number1::<E>::new(), purpose)
-        }
-        b"r2.r2.r2.b" => {
-            Arrayed::<Arrayed<Arrayed<Alone, 2>, 2>, 2>::run::<_, E, U>(Truths::<E>::new(), purpose)
-        }
-        b"a3.pst" => {
-            Sliced::<Pointed<Far<Alone, 3>>>::run_step::<_, E, U>(ZeroStr::<E>::new(), purpose)
-        }
-        b"psa3.i5." => Far::<Sliced<Pointed<Alone>>, 3>::run_step::<_, E, U>(
-            ZeroString::<E>::new(5)?,
-            purpose,
-        ),
-        b"pr2.st" => {
-            Sliced::<Arrayed<Pointed<Alone>, 2>>::run_step::<_, E, U>(ZeroStr::<E>::new(), purpose)
-        }
-        b"spst" => {
-            Sliced::<Pointed<Sliced<Alone>>>::run_step::<_, E, U>(ZeroStr::<E>::new(), purpose)
-        }
-        b"psst" => {
-            Sliced::<Sliced<Pointed<Alone>>>::run_step::<_, E, U>(ZeroStr::<E>::new(), purpose)
-        }
-        _ => Layer::<Layer<DeepLeaf>>::run::<Alone, E, U>(name, purpose),
     }
 }
+
+// The kinds whose size stops.
+struct Stopping;
+
+impl Part for Stopping {
+    ghost forms = { vast };
+
+    fn run<H: Hold, E: Endian, U: Use>(name: &[u8], purpose: &mut U) -> Result<U::Answer, Missing> {
+        if name == b"r65535.r65535.8".as_slice() {
+            Arrayed::<Arrayed<H, MOST>, MOST>::run::<_, E, U>(Number8::<E>::new(), purpose)
+        } else if name == b"sr65535.r65535.8".as_slice() {
+            Arrayed::<Arrayed<Sliced<H>, MOST>, MOST>::run::<_, E, U>(Number8::<E>::new(), purpose)
+        } else if name == b"r65535.r65535.r65535.r65535.8".as_slice() {
+            Vast::<H>::run::<_, E, U>(Number8::<E>::new(), purpose)
+        } else if name == b"pr65535.r65535.r65535.r65535.8".as_slice() {
+            Vast::<Pointed<H>>::run::<_, E, U>(Number8::<E>::new(), purpose)
+        } else if name == b"sr65535.r65535.r65535.r65535.8".as_slice() {
+            Vast::<Sliced<H>>::run::<_, E, U>(Number8::<E>::new(), purpose)
+        } else if name == b"r32767.i65535.".as_slice() {
+            Arrayed::<H, MANY>::run::<_, E, U>(ZeroString::<E>::new(MOST as usize)?, purpose)
+        } else {
+            Err(Missing::NoKind)
+        }
+    }
+}
+
+// Counts and a capacity that no kind has.
+struct Refusing;
+
+impl Part for Refusing {
+    ghost forms = { bad_counts };
+
+    fn run<H: Hold, E: Endian, U: Use>(name: &[u8], purpose: &mut U) -> Result<U::Answer, Missing> {
+        if name == b"r0.1".as_slice() {
+            Arrayed::<H, 0>::run::<_, E, U>(Number1::<E>::new(), purpose)
+        } else if name == b"a65536.1".as_slice() {
+            Far::<H, OVER>::run::<_, E, U>(Number1::<E>::new(), purpose)
+        } else if name == b"i0.".as_slice() {
+            H::run::<_, E, U>(ZeroString::<E>::new(0)?, purpose)
+        } else {
+            Err(Missing::NoKind)
+        }
+    }
+}
+
+// The kinds of one part, and behind them those of another.
+struct Or<P: Part, Q: Part>(PhantomData<(P, Q)>);
+
+impl<P: Part, Q: Part> Part for Or<P, Q> {
+    ghost forms = { P.forms ++ Q.forms };
+
+    fn run<H: Hold, E: Endian, U: Use>(name: &[u8], purpose: &mut U) -> Result<U::Answer, Missing> {
+        match P::run::<H, E, U>(name, purpose) {
+            Ok(answer) => Ok(answer),
+            Err(Missing::Refused(refusal)) => Err(Missing::Refused(refusal)),
+            Err(Missing::NoKind) => Q::run::<H, E, U>(name, purpose),
+        }
+    }
+}
+
+// Short names are looked for first, since they are used most.
+type All = Or<Layer<Layer<DeepLeaf>>, Or<Deep, Or<Stopping, Refusing>>>;
 
 // Uses the kind of a name, in a byte order; a name that tells none uses none.
-pub fn with_kind<U: Use>(name: &[u8], order: Order, purpose: U) -> Result<U::Answer, Missing> {
+pub fn with_kind<U: Use>(name: &[u8], order: Order, purpose: &mut U) -> Result<U::Answer, Missing>
+    ensures { Used U.tells (sense_of (order_of order) name.now) purpose.old result purpose.new }
+{
     // An order is a type, so it is chosen here.
     match order {
-        Order::Little => named::<LittleEndian, U>(name, purpose),
-        Order::Big => named::<BigEndian, U>(name, purpose),
+        Order::Little => All::run::<Alone, LittleEndian, U>(name, purpose),
+        Order::Big => All::run::<Alone, BigEndian, U>(name, purpose),
     }
 }

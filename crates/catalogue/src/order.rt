@@ -1,5 +1,6 @@
 // The byte order of a kind, as a value.
 ghost use Rattle.std.specs.Prelude.{◌≡◌};
+ghost use Rattle.catalogue.specs.Orders.{order_named};
 
 #[derive(Clone, Copy, PartialEq, Eq, Debug)]
 pub enum Order {
@@ -9,7 +10,9 @@ pub enum Order {
 
 impl Order {
     // By its ASCII letter.
-    pub fn named(letter: u8) -> Option<Order> {
+    pub fn named(letter: u8) -> Option<Order>
+        ensures { result ≡ order_named letter }
+    {
         match letter {
             b'l' => Some(Order::Little),
             b'b' => Some(Order::Big),

@@ -1,14 +1,19 @@
 // What is done with a kind.
+ghost use Rattle.naming.specs.Senses.{Sense, plain, leading};
+
 use kind::{Kind, OneStep};
 
 // What is done with a kind once its name has told which it is: as a closure that is generic over kinds would be.
-pub trait Use: Drop + Sized {
+pub trait Use {
     type Answer;
 
-    fn with<K: Kind>(self, kind: &K) -> Self::Answer;
+    // What it may answer of a kind of that sense, and be left as. It is lent and not given, since a contract says what becomes of what is lent.
+    ghost tells: { Self → Sense → Self.Answer → Self → Type 0 };
 
-    // With a kind that leads somewhere: as with any other, where it makes no difference.
-    fn with_step<K: OneStep>(self, kind: &K) -> Self::Answer {
-        self.with(kind)
-    }
+    fn with<K: Kind>(&mut self, kind: &K) -> Self::Answer
+        ensures { tells self.old (plain (K.Kind.meaning kind.now)) result self.new };
+
+    // With a kind that leads somewhere.
+    fn with_step<K: OneStep>(&mut self, kind: &K) -> Self::Answer
+        ensures { tells self.old (leading (K.Kind.meaning kind.now) (K.OneStep.step kind.now)) result self.new };
 }

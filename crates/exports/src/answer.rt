@@ -1,4 +1,8 @@
 // What a call answers, as C reads it.
+ghost use Rattle.std.specs.Prelude.{◌≡◌};
+ghost use Rattle.exports.specs.declared.answer.Trouble.TheVariants.{Refused as Refusing, NotMade as Unmade};
+ghost use Rattle.exports.specs.Numbers.{answer_of, trouble_of};
+
 use catalogue::Missing;
 use refusal::Refusal;
 
@@ -31,6 +35,8 @@ pub struct Told {
 }
 
 impl From<usize> for Told {
+    ghost from_gives = { λ n t. t ≡ record { value = n; count = 0 } };
+
     fn from(value: usize) -> Told {
         Told { value, count: 0 }
     }
@@ -42,19 +48,26 @@ pub enum Trouble {
     NotMade(NotMade),
 }
 
+// These stand by hand, since the contracts name the error that a `?` makes, and a derived `From` has no contract.
 impl From<Refusal> for Trouble {
+    ghost from_gives = { λ e r. r ≡ Refusing e };
+
     fn from(refusal: Refusal) -> Trouble {
         Trouble::Refused(refusal)
     }
 }
 
 impl From<NotMade> for Trouble {
+    ghost from_gives = { λ e r. r ≡ Unmade e };
+
     fn from(why: NotMade) -> Trouble {
         Trouble::NotMade(why)
     }
 }
 
 impl From<Missing> for Trouble {
+    ghost from_gives = { λ e r. r ≡ trouble_of e };
+
     fn from(missing: Missing) -> Trouble {
         match missing {
             Missing::NoKind => NotMade::NoKind.into(),
@@ -64,6 +77,8 @@ impl From<Missing> for Trouble {
 }
 
 impl From<Result<Told, Trouble>> for Answer {
+    ghost from_gives = { λ o a. a ≡ answer_of o };
+
     fn from(outcome: Result<Told, Trouble>) -> Answer {
         let nothing = Answer {
             refusal: 0,

@@ -1,9 +1,12 @@
 // The calls of a life, made on a builder.
+ghost use Rattle.std.specs.Prelude.{⊤};
+
 use crate::answer::{Told, Trouble};
 use crate::calls::{Name, made};
 use builder::ZeroBuilder;
 use catalogue::Use;
-use kind::Kind;
+use kind::{Kind, OneStep};
+use refusal::Refusal;
 
 #[derive(Clone, Copy)]
 pub enum Event<'a> {
@@ -37,42 +40,51 @@ impl Event<'_> {
                 builder.push_bytes(buffer, bytes, alignment)?
             }
             Event::OfKind(name, event) => {
-                return made(
-                    name,
-                    Waiting {
-                        event,
-                        builder,
-                        buffer,
-                    },
-                );
+                let mut waiting = Waiting {
+                    event,
+                    builder,
+                    buffer,
+                };
+                return made(name, &mut waiting);
             }
         };
         Ok(told.into())
     }
 }
 
-// An event that waits for its kind, with what it is made on.
-#[derive(Drop)]
-struct Waiting<'a> {
-    event: KindEvent<'a>,
-    builder: &'a mut ZeroBuilder,
-    buffer: &'a mut [u8],
+impl KindEvent<'_> {
+    fn make<K: Kind>(
+        self,
+        builder: &mut ZeroBuilder,
+        buffer: &mut [u8],
+        kind: &K,
+    ) -> Result<usize, Refusal> {
+        match self {
+            KindEvent::Reserve => builder.reserve(buffer, kind),
+            KindEvent::Push(bytes) => builder.push(buffer, kind, bytes),
+            KindEvent::Build(sheet) => builder.build(buffer, kind, sheet),
+        }
+    }
 }
 
-impl Use for Waiting<'_> {
+// An event that waits for its kind, with what it is made on.
+#[derive(Drop)]
+struct Waiting<'a, 'b, 'c> {
+    event: KindEvent<'a>,
+    builder: &'b mut ZeroBuilder,
+    buffer: &'c mut [u8],
+}
+
+impl Use for Waiting<'_, '_, '_> {
     type Answer = Result<Told, Trouble>;
 
-    fn with<K: Kind>(self, kind: &K) -> Result<Told, Trouble> {
-        let Waiting {
-            event,
-            builder,
-            buffer,
-        } = self;
-        let place = match event {
-            KindEvent::Reserve => builder.reserve(buffer, kind)?,
-            KindEvent::Push(bytes) => builder.push(buffer, kind, bytes)?,
-            KindEvent::Build(sheet) => builder.build(buffer, kind, sheet)?,
-        };
-        Ok(place.into())
+    ghost tells = { λ _ _ _ _. ⊤ };
+
+    fn with<K: Kind>(&mut self, kind: &K) -> Result<Told, Trouble> {
+        Ok(self.event.make(self.builder, self.buffer, kind)?.into())
+    }
+
+    fn with_step<K: OneStep>(&mut self, kind: &K) -> Result<Told, Trouble> {
+        self.with(kind)
     }
 }

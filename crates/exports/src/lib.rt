@@ -1,7 +1,9 @@
 // What C calls: `c/gachullpi.h` declares these functions, and says what is asked of their caller. A thin layer: each hands its call to the library.
 #![tactic(auto)]
 
+ghost use Rattle.std.specs.Prelude.{◌≡◌};
 ghost use Rattle.utf8.specs.Recognised.{Recognised};
+ghost use Rattle.exports.specs.Answering.{scanned, checked, checked_deeply, stepped, copied, answers_by, copies_by};
 
 mod answer;
 mod calls;
@@ -20,19 +22,18 @@ pub extern "C" fn gachullpi_is_text(bytes: &[u8]) -> bool
 }
 
 #[unsafe(no_mangle)]
-pub extern "C" fn gachullpi_scan(kind: &[u8], sheet: &[u8]) -> Answer {
+pub extern "C" fn gachullpi_scan(kind: &[u8], sheet: &[u8]) -> Answer
+    ensures { result ≡ answers_by (scanned sheet.now) kind.now 108 }
+{
     // A sheet has no byte order.
-    asked(kind, b'l', Scan { sheet })
+    asked(kind, b'l', &mut Scan { sheet })
 }
 
 #[unsafe(no_mangle)]
-pub extern "C" fn gachullpi_is_valid(
-    kind: &[u8],
-    order: u8,
-    archive: &[u8],
-    place: usize,
-) -> Answer {
-    asked(kind, order, Shallow(Root { archive, place }))
+pub extern "C" fn gachullpi_is_valid(kind: &[u8], order: u8, archive: &[u8], place: usize) -> Answer
+    ensures { result ≡ answers_by (checked archive.now place) kind.now order }
+{
+    asked(kind, order, &mut Shallow(Root { archive, place }))
 }
 
 #[unsafe(no_mangle)]
@@ -41,13 +42,17 @@ pub extern "C" fn gachullpi_is_valid_deep(
     order: u8,
     archive: &[u8],
     place: usize,
-) -> Answer {
-    asked(kind, order, Deep(Root { archive, place }))
+) -> Answer
+    ensures { result ≡ answers_by (checked_deeply archive.now place) kind.now order }
+{
+    asked(kind, order, &mut Deep(Root { archive, place }))
 }
 
 #[unsafe(no_mangle)]
-pub extern "C" fn gachullpi_get(kind: &[u8], order: u8, archive: &[u8], place: usize) -> Answer {
-    asked(kind, order, Get(Root { archive, place }))
+pub extern "C" fn gachullpi_get(kind: &[u8], order: u8, archive: &[u8], place: usize) -> Answer
+    ensures { result ≡ answers_by (stepped archive.now place) kind.now order }
+{
+    asked(kind, order, &mut Get(Root { archive, place }))
 }
 
 #[unsafe(no_mangle)]
@@ -57,9 +62,11 @@ pub extern "C" fn gachullpi_copy_out(
     archive: &[u8],
     place: usize,
     output: &mut [u8],
-) -> Answer {
+) -> Answer
+    ensures { record { answer = result; output = output.new } ≡ copies_by (copied archive.now place) output.old kind.now order }
+{
     let root = Root { archive, place };
-    asked(kind, order, CopyOut { root, output })
+    asked(kind, order, &mut CopyOut { root, output })
 }
 
 #[unsafe(no_mangle)]

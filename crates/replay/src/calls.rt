@@ -1,4 +1,6 @@
 // The calls that are made with a kind.
+ghost use Rattle.std.specs.Prelude.{⊤};
+
 use crate::desk::Desk;
 use crate::said::Said;
 use crate::trouble::{Trouble, Unread};
@@ -25,27 +27,16 @@ pub enum Call {
     Build(Vec<u8>),
 }
 
-// A call that waits for its kind, with what it is made on.
-#[derive(Drop)]
-pub struct Request<'a> {
-    pub call: Call,
-    pub desk: &'a mut Desk,
-    pub buffer: &'a mut [u8],
-}
-
-impl Use for Request<'_> {
-    type Answer = Result<Said, Trouble>;
-
+impl Call {
     // One step is not for each kind.
-    fn with<K: Kind>(self, kind: &K) -> Result<Said, Trouble> {
-        let Request { call, desk, buffer } = self;
-        let number = match call {
+    fn make<K: Kind>(&self, desk: &mut Desk, buffer: &mut [u8], kind: &K) -> Result<Said, Trouble> {
+        let number = match self {
             Call::Scan(sheet) => kind.scan(sheet.as_slice(), 0)?,
             Call::Shallow(root) => is_valid(kind, root.archive.as_slice(), root.place)?,
             Call::Deep(root) => is_valid_deep(kind, root.archive.as_slice(), root.place)?,
             Call::Get(_) => return Err(Unread::NoGet.into()),
             Call::Copy(root, room) => {
-                let mut output = desk.filled(room)?;
+                let mut output = desk.filled(*room)?;
                 let length = copy_out(
                     kind,
                     root.archive.as_slice(),
@@ -60,16 +51,39 @@ impl Use for Request<'_> {
         };
         Ok(Said::Number(number))
     }
+}
 
-    fn with_step<K: OneStep>(self, kind: &K) -> Result<Said, Trouble> {
-        let Request { call, desk, buffer } = self;
-        let Call::Get(root) = call else {
-            return Request { call, desk, buffer }.with(kind);
-        };
-        match get(kind, root.archive.as_slice(), root.place)? {
-            Found::Target { place } => Ok(Said::Number(place)),
-            Found::Items { place, count } => Ok(Said::Pair(place, count as usize)),
-            Found::Text(part) => Ok(Said::Bytes(part.place, desk.copied(part.bytes)?)),
+fn step<K: OneStep>(root: &Root, desk: &Desk, kind: &K) -> Result<Said, Trouble> {
+    match get(kind, root.archive.as_slice(), root.place)? {
+        Found::Target { place } => Ok(Said::Number(place)),
+        Found::Items { place, count } => Ok(Said::Pair(place, count as usize)),
+        Found::Text(part) => Ok(Said::Bytes(part.place, desk.copied(part.bytes)?)),
+    }
+}
+
+// A call that waits for its kind, with what it is made on.
+#[derive(Drop)]
+pub struct Request<'a, 'b, 'c> {
+    pub call: &'a Call,
+    pub desk: &'b mut Desk,
+    pub buffer: &'c mut [u8],
+}
+
+impl Use for Request<'_, '_, '_> {
+    type Answer = Result<Said, Trouble>;
+
+    // What the program says is tested.
+    ghost tells = { λ _ _ _ _. ⊤ };
+
+    fn with<K: Kind>(&mut self, kind: &K) -> Result<Said, Trouble> {
+        let call = self.call;
+        call.make(self.desk, self.buffer, kind)
+    }
+
+    fn with_step<K: OneStep>(&mut self, kind: &K) -> Result<Said, Trouble> {
+        match self.call {
+            Call::Get(root) => step(root, self.desk, kind),
+            call => call.make(self.desk, self.buffer, kind),
         }
     }
 }

@@ -89,8 +89,12 @@ impl<'a> Task<'a> {
     pub(crate) fn run(self, desk: &mut Desk, buffer: &mut [u8]) -> Result<Said, Trouble> {
         let place = match self {
             Task::Kind(name, order, call) => {
-                let request = Request { call, desk, buffer };
-                return with_kind(name.as_bytes(), order, request)?;
+                let mut request = Request {
+                    call: &call,
+                    desk,
+                    buffer,
+                };
+                return with_kind(name.as_bytes(), order, &mut request)?;
             }
             Task::Align(alignment) => desk.builder()?.align(buffer, alignment)?,
             Task::ReserveBytes { count, alignment } => {
