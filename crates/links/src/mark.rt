@@ -5,6 +5,7 @@ ghost use Rattle.format.specs.Sheets.{pointer_mark, far_array_mark};
 ghost use Rattle.std.proofs.Common.{refl, lit<};
 
 pub trait Mark {
+    // By its letters, as `scalars` has that of a truth.
     const MARK: [u8; 2];
 
     ghost MARK: { List ℕ };

@@ -17,7 +17,7 @@ pub trait Scalar {
 
     ghost passes: { ℕ → Bool };
 
-    // The mark in a sheet.
+    // The mark in a sheet. A constant without parameters may not be read through `marks::BO` yet, so some are written by their letters.
     const MARK: [u8; 2];
 
     ghost MARK: { List ℕ };
