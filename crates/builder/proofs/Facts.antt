@@ -14,9 +14,9 @@ sound b = record {
   inside = b.inside;
   within = b.within;
   power =
-      let p = b.power in
-      let e : max 1 b.align ≡ b.align = omega arith in
-      subst Alignment e (allowed-power b.align p.listed);
+      let p = b.align.power in
+      let e : max 1 b.align.bytes ≡ b.align.bytes = omega arith in
+      subst Alignment e (allowed-power b.align.bytes p.listed);
 }
 
 pub power : (a : ℕ) → Alignment a → Power a

@@ -10,7 +10,7 @@ use Rattle.builder.specs.declared.Finished.{Finished as End}
 use Rattle.builder.specs.declared.planning.Plan.{Plan}
 
 abbrev pub model : ZeroBuilder → Builder
-model b = record { used = b.used; align = b.align; room = b.room }
+model b = record { used = b.used; align = b.align.bytes; room = b.room }
 
 abbrev pub finished_of : End → Finished
 finished_of f = record { length = f.length; alignment = f.alignment }

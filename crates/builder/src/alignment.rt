@@ -37,4 +37,12 @@ impl Alignment {
             bytes: kind.align(),
         }
     }
+
+    pub(crate) fn larger(self, other: Alignment) -> Alignment
+        ensures { result.bytes ≡ max self.bytes other.bytes }
+    {
+        Alignment {
+            bytes: self.bytes.max(other.bytes),
+        }
+    }
 }

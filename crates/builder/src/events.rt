@@ -22,7 +22,7 @@ impl ZeroBuilder {
         }
         Ok(ZeroBuilder {
             used: 0,
-            align: 1,
+            align: Alignment { bytes: 1 },
             room: buffer.len(),
         })
     }
@@ -101,7 +101,7 @@ impl ZeroBuilder {
     {
         Finished {
             length: self.used,
-            alignment: self.align,
+            alignment: self.align.bytes,
         }
     }
 }

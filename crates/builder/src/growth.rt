@@ -54,16 +54,7 @@ impl ZeroBuilder {
     {
         put_zeros(buffer, self.used, place - self.used);
         self.used = used;
-        self.align = align.bytes;
-    }
-
-    // The larger of the alignment so far and another.
-    pub(crate) fn widened(&self, alignment: Alignment) -> Alignment
-        ensures { result.bytes ≡ max self.now.align alignment.bytes }
-    {
-        Alignment {
-            bytes: self.align.max(alignment.bytes),
-        }
+        self.align = align;
     }
 
     // What is added, at the next place of an alignment, which is told.
@@ -78,7 +69,7 @@ impl ZeroBuilder {
     {
         let count = addition.count();
         let place = self.reach(self.next(alignment), count)?;
-        let align = self.widened(alignment);
+        let align = self.align.larger(alignment);
         self.grow(buffer, place, place + count, align);
         addition.put(buffer, place);
         Ok(place)

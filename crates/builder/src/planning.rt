@@ -56,7 +56,7 @@ impl ZeroBuilder {
         let mut at = 0;
         let (end, widest) = kind.layout(sheet, &mut at, tail);
         self.reach(end, 0)?;
-        let align = self.widened(Alignment { bytes: widest });
+        let align = self.align.larger(Alignment { bytes: widest });
         Ok(Plan { place, end, align })
     }
 

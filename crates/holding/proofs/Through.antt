@@ -71,17 +71,11 @@ leads front m o a d s h =
     (x.0, (linked_parts m o a d x.0 x.1.0).0)
 
 -- the same through a distance that leads to q
-module _ (front : List ℕ) (m b : Meaning) (is : b ≡ m) (o : Order) (a : List ℕ) (d : ℕ) (s : List ℕ) (h : both (linked m o a d) (held front m a) ≡ good s) (q : ℕ) (led : target o a d ≡ good q) where
-  there : (Sits m a q) × (held front m a q ≡ good s)
-  there =
-      let x = both_parts (linked m o a d) _ s h in
-      let y = linked_parts m o a d x.0 x.1.0 in
-      subst (λ z. (Sits m a z) × (held front m a z ≡ good s)) (good-same _ _ (sym y.0 ∙ led)) (y.1, x.1.1)
-
-  pub led_copyable : (out : List ℕ) (to e : ℕ) → length a ≤ limit → to + length s ≤ length out → e ≡ to + length front → Copyable b a q out e
-  led_copyable out to e capped = held_copyable front m b is a q s there.1 out to e capped there.0
-
-  pub led_copied :
-      (first out new : List ℕ) (to e r : ℕ) → to ≤ length first → out ≡ put first to front → e ≡ to + length front →
-      ((i : List ℕ) → b.reading a q ≡ good i → (new ≡ put out e i) × (r ≡ e + length i)) → (new ≡ put first to s) × (r ≡ to + length s)
-  led_copied = held-copied front m b is a q s there.1
+pub led_copied :
+    (front : List ℕ) (m : Meaning) (o : Order) (a : List ℕ) (d : ℕ) (s : List ℕ) → both (linked m o a d) (held front m a) ≡ good s → (q : ℕ) → target o a d ≡ good q →
+    (first out new : List ℕ) (to e r : ℕ) → to ≤ length first → out ≡ put first to front → e ≡ to + length front →
+    ((i : List ℕ) → m.reading a q ≡ good i → (new ≡ put out e i) × (r ≡ e + length i)) → (new ≡ put first to s) × (r ≡ to + length s)
+led_copied front m o a d s h q led =
+    let x = both_parts (linked m o a d) _ s h in
+    let there = good-same _ _ (sym (linked_parts m o a d x.0 x.1.0).0 ∙ led) in
+    held-copied front m m refl a q s (subst (λ z. held front m a z ≡ good s) there x.1.1)

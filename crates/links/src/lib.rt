@@ -1,13 +1,19 @@
 // The kinds that are one distance to what they hold, pointers and far arrays; and beside them those of `lists`, so that all four that hold others go by one name.
 #![tactic(auto)]
 
-// A pointer and a far array stay two types: one generic type would need a trait for what a kind and a row both answer, an impl of it for each, and is no shorter.
-mod far_array;
-mod pointer;
+mod link;
+mod mark;
 
-pub use far_array::ZeroArray;
+pub use link::Link;
 pub use lists::{Array, ZeroSlice};
-pub use pointer::RelativePtr;
+pub use mark::{FarArrayMark, Mark, PointerMark};
+use rows::Items;
+
+// To one value.
+pub type RelativePtr<K, E> = Link<PointerMark, K, E>;
+
+// To so many values in a row.
+pub type ZeroArray<K, E> = Link<FarArrayMark, Items<K>, E>;
 
 // Of a distance, which is all of such a head.
 const SIZE: usize = 4;

@@ -18,14 +18,13 @@ pub fn plate_of(heap: Global, line: &[u8]) -> Result<Plate<'_>, ListError>
     ensures { TellsPlate result (fields_of line.now) }
 {
     let mut fields = pieces(heap, line, b';')?;
-    // Two fields are known then: a pattern of the slice would have to be matched while the rest is split off.
-    if fields.len() < 2 {
+    let [number, cast, ..] = *fields.as_slice() else {
         return Err(ListError::NoCast);
-    }
+    };
     let parts = fields.split_off(2)?;
     Ok(Plate {
-        number: fields[0],
-        cast: fields[1],
+        number,
+        cast,
         parts,
     })
 }

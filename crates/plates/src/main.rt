@@ -29,11 +29,9 @@ fn words(rt: &HostRuntime) -> io::Result<Vec<String>> {
 fn run<'a>(rt: &HostRuntime, words: &'a [String]) -> Result<(), Trouble<'a>> {
     let words: Vec<_> = words.iter().map(String::as_str).collect(rt.alloc())?;
     let output = Command::of(words.as_slice())?.run(rt)?;
-    // No `map_err`, which takes no constructor whose type names a lifetime that its argument has not.
-    match rt.stdout().write_all(output.as_slice()) {
-        Ok(()) => Ok(()),
-        Err(error) => Err(Trouble::Output(error)),
-    }
+    rt.stdout()
+        .write_all(output.as_slice())
+        .map_err(|error| Trouble::Output(error))
 }
 
 fn ended(rt: &HostRuntime, done: Result<(), Trouble>) -> ExitCode {

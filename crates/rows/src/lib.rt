@@ -7,8 +7,11 @@ ghost use Rattle.format.specs.Items.{row};
 use buffer::STOP;
 use kind::Kind;
 
+mod items;
 mod reading;
 mod sheets;
+
+pub use items::Items;
 
 // So many items of a kind, one behind another.
 #[derive_where(Clone, Copy)]

@@ -10,8 +10,6 @@ use std::marker::PhantomData;
 pub trait Scalar {
     type Width: Primitive;
 
-    ghost letters: { List ℕ };
-
     // Whether it is known that every number of this width is one.
     const ALL_VALID: bool;
 
@@ -19,15 +17,16 @@ pub trait Scalar {
 
     ghost passes: { ℕ → Bool };
 
-    // The mark in a sheet. No constant: a constant's value may not be chosen by the width yet.
-    fn mark() -> &'static [u8; 2]
-        ensures { result.now ≡ letters };
+    // The mark in a sheet. A constant without parameters may not be read through `marks::BO` yet, so some are written by their letters.
+    const MARK: [u8; 2];
+
+    ghost MARK: { List ℕ };
 
     // Whether a number of this width is such a scalar. By its ranges: `char::from_u32` would take a conversion first.
     fn valid(n: u64) -> bool
         ensures { result ≡ passes n };
 
-    ghost two: { length letters ≡ 2 };
+    ghost two: { length MARK ≡ 2 };
 
     ghost all: { T ALL_VALID → (n : ℕ) → passes n ≡ true };
 }
@@ -43,7 +42,14 @@ pub struct Character;
 impl<P: Primitive> Scalar for Number<P> {
     type Width = P;
 
-    ghost letters = { number_mark P.Primitive.SIZE };
+    const MARK: [u8; 2] = match P::SIZE {
+        1 => *marks::N1,
+        2 => *marks::N2,
+        4 => *marks::N4,
+        _ => *marks::N8,
+    };
+
+    ghost MARK = { number_mark P.Primitive.SIZE };
 
     const ALL_VALID: bool = true;
 
@@ -55,15 +61,6 @@ impl<P: Primitive> Scalar for Number<P> {
 
     ghost all = { Prim.search rules };
 
-    fn mark() -> &'static [u8; 2] {
-        match P::SIZE {
-            1 => marks::N1,
-            2 => marks::N2,
-            4 => marks::N4,
-            _ => marks::N8,
-        }
-    }
-
     fn valid(_n: u64) -> bool {
         true
     }
@@ -72,7 +69,9 @@ impl<P: Primitive> Scalar for Number<P> {
 impl Scalar for Truth {
     type Width = Width1;
 
-    ghost letters = { truth_mark };
+    const MARK: [u8; 2] = [b'B', b'O'];
+
+    ghost MARK = { truth_mark };
 
     const ALL_VALID: bool = false;
 
@@ -84,10 +83,6 @@ impl Scalar for Truth {
 
     ghost all = { Prim.search rules };
 
-    fn mark() -> &'static [u8; 2] {
-        marks::BO
-    }
-
     fn valid(n: u64) -> bool {
         n < 2
     }
@@ -96,7 +91,9 @@ impl Scalar for Truth {
 impl Scalar for Character {
     type Width = Width4;
 
-    ghost letters = { character_mark };
+    const MARK: [u8; 2] = [b'C', b'H'];
+
+    ghost MARK = { character_mark };
 
     const ALL_VALID: bool = false;
 
@@ -107,10 +104,6 @@ impl Scalar for Character {
     ghost two = { Prim.search rules };
 
     ghost all = { Prim.search rules };
-
-    fn mark() -> &'static [u8; 2] {
-        marks::CH
-    }
 
     fn valid(n: u64) -> bool {
         matches!(n, 0..=0xd7ff | 0xe000..=0x10_ffff)

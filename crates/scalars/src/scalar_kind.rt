@@ -30,9 +30,9 @@ impl<S: Scalar, E: Endian> ScalarKind<S, E> {
 }
 
 impl<S: Scalar, E: Endian> Kind for ScalarKind<S, E> {
-    ghost meaning = { λ _. scalar_kind S.Scalar.letters S.Width.Primitive.SIZE S.Scalar.passes E.Endian.order };
+    ghost meaning = { λ _. scalar_kind S.Scalar.MARK S.Width.Primitive.SIZE S.Scalar.passes E.Endian.order };
 
-    ghost lawful = { λ k. scalar_laws S.Scalar.letters S.Width.Primitive.SIZE S.Scalar.passes E.Endian.order S.Width.Primitive.sized E.Endian.undoes };
+    ghost lawful = { λ k. scalar_laws S.Scalar.MARK S.Width.Primitive.SIZE S.Scalar.passes E.Endian.order S.Width.Primitive.sized E.Endian.undoes };
 
     fn size(&self) -> usize {
         S::Width::SIZE
@@ -44,7 +44,7 @@ impl<S: Scalar, E: Endian> Kind for ScalarKind<S, E> {
     }
 
     fn scan(&self, sheet: &[u8], at: usize) -> Result<usize, Refusal> {
-        let n = sheet::number::<S::Width>(sheet, at, S::mark())?;
+        let n = sheet::number::<S::Width>(sheet, at, &S::MARK)?;
         // The test stands here and in `shallow`, each with its cause: a function for it is no shorter.
         if !S::valid(S::Width::widen(n)) {
             return Err(Refusal::at(Cause::SheetNotScalar, at));
@@ -86,7 +86,7 @@ impl<S: Scalar, E: Endian> Kind for ScalarKind<S, E> {
 
     // A row of such scalars need not be read just where every number is one.
     fn always(&self) -> Option<usize>
-        ensures always { Always (scalar_kind S.Scalar.letters S.Width.Primitive.SIZE S.Scalar.passes E.Endian.order) result }
+        ensures always { Always (scalar_kind S.Scalar.MARK S.Width.Primitive.SIZE S.Scalar.passes E.Endian.order) result }
         ensures exact { result ≡ then_some S.Scalar.ALL_VALID (2 + S.Width.Primitive.SIZE) }
     {
         S::ALL_VALID.then_some(2 + S::Width::SIZE)
@@ -94,7 +94,7 @@ impl<S: Scalar, E: Endian> Kind for ScalarKind<S, E> {
 
     fn copy(&self, archive: &[u8], at: usize, out: &mut [u8], to: usize) -> usize {
         let n = S::Width::take_back::<E>(archive, at);
-        put_at(out, to, S::mark());
+        put_at(out, to, &S::MARK);
         S::Width::lay::<LittleEndian>(n, out, to + 2);
         to + 2 + S::Width::SIZE
     }

@@ -13,4 +13,4 @@ returns c =
     let fits = ap (λ z. unless (leb (z + n) b.room) (fault 4 0) (good z)) (sym c.next.ensures.place) ∙ sym c.in_ok-place.ensures.told in
     let low = subst (λ z. b.used ≤ z) (sym c.in_ok-place.ensures.within.0) c.next.ensures.low in
     ap (λ z. record { answer = good p; builder = z; buffer = c.put.new.buffer }) c.grow.ensures.builder ∙
-    sym (appended-good b c.args.buffer.now c.args.alignment.bytes (bytes_of c.args.addition) n (sym c.count-count.ensures) p c.widened-align.result.bytes c.grow.new.buffer c.put.new.buffer fits low (omega arith) c.widened-align.ensures c.grow.ensures.bytes c.put.ensures)
+    sym (appended-good b c.args.buffer.now c.args.alignment.bytes (bytes_of c.args.addition) n (sym c.count-count.ensures) p c.larger-align.result.bytes c.grow.new.buffer c.put.new.buffer fits low (omega arith) c.larger-align.ensures c.grow.ensures.bytes c.put.ensures)

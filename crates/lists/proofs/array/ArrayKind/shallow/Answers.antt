@@ -8,10 +8,10 @@ use Rattle.lists.proofs.array.ArrayKind.shallow.Goals as goal
 pub returns-in_err-held : goal.returns-in_err-held
 returns-in_err-held g c =
     let p = err_from_is_err_and c.from_residual.result c.from_residual.ensures.1 in
-    let x = (row (g.K.Kind.meaning c.args.self.now.item) c.args.self.now.count.value).shallow c.args.archive.now c.args.at in
-    rw (p.1, p.2) (looked-bad x _ c.args.at (c.in_err-held.ensures.told ∙ ap inside (c.shallow.ensures ∙ ap (λ r. r.shallow c.args.archive.now c.args.at) c.row.ensures)))
+    let x = (row (g.K.Kind.meaning c.args.self.now.items.item) c.args.self.now.items.count.value).shallow c.args.archive.now c.args.at in
+    rw (p.1, p.2) (looked-bad x _ c.args.at (c.in_err-held.ensures.told ∙ ap inside c.shallow.ensures))
 
 pub returns : goal.returns
 returns g c =
-    let x = (row (g.K.Kind.meaning c.args.self.now.item) c.args.self.now.count.value).shallow c.args.archive.now c.args.at in
-    looked-good x c.in_ok-held.field-0 c.args.at (c.in_ok-held.ensures.told ∙ ap inside (c.shallow.ensures ∙ ap (λ r. r.shallow c.args.archive.now c.args.at) c.row.ensures))
+    let x = (row (g.K.Kind.meaning c.args.self.now.items.item) c.args.self.now.items.count.value).shallow c.args.archive.now c.args.at in
+    looked-good x c.in_ok-held.field-0 c.args.at (c.in_ok-held.ensures.told ∙ ap inside c.shallow.ensures)

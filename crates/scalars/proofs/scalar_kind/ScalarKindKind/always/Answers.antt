@@ -15,5 +15,5 @@ known mark w valid o k two width e false h r q = subst (Always (scalar_kind mark
 
 pub returns-clause-always : goal.returns-clause-always
 returns-clause-always g c =
-    known g.S.Scalar.letters g.S.Width.Primitive.SIZE g.S.Scalar.passes g.E.Endian.order c.SIZE.result g.met.S.Scalar.two g.met.S.Width.Primitive.sized c.SIZE.ensures
+    known g.S.Scalar.MARK g.S.Width.Primitive.SIZE g.S.Scalar.passes g.E.Endian.order c.SIZE.result g.met.S.Scalar.two g.met.S.Width.Primitive.sized c.SIZE.ensures
     c.ALL_VALID.result (λ t. g.met.S.Scalar.all (subst T c.ALL_VALID.ensures t)) c.then_some.result c.then_some.ensures

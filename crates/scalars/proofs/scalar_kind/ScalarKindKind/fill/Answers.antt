@@ -6,7 +6,7 @@ use Rattle.scalars.proofs.scalar_kind.ScalarKindKind.fill.Goals as goal
 
 pub returns : goal.returns
 returns g c =
-    let f = found g.S.Scalar.letters g.S.Width.Primitive.SIZE g.S.Scalar.passes c.args.sheet.now c.args.at.now c.requires.next c.requires.found in
+    let f = found g.S.Scalar.MARK g.S.Width.Primitive.SIZE g.S.Scalar.passes c.args.sheet.now c.args.at.now c.requires.next c.requires.found in
     record {
       bytes = head-alone (g.E.Endian.order.lay g.S.Width.Primitive.SIZE) (g.S.Width.Primitive.value c.take_back-n.result) _ c.args.out.now c.lay.new.out c.args.head c.args.tail (c.take_back-n.ensures.value ∙ sym f.value) c.lay.ensures.bytes;
       end = refl;

@@ -1,11 +1,13 @@
-// A distance to one value.
-ghost use Rattle.std.specs.Prelude.{◌≡◌};
-ghost use Rattle.format.specs.Links.{pointer, linked};
+// A mark of its own, and a distance to what it holds.
+ghost use Rattle.std.specs.Prelude.{◌≡◌, IfOk};
+ghost use Rattle.format.specs.Meaning.{counted};
+ghost use Rattle.format.specs.Links.{link, linked};
 ghost use Rattle.format.specs.Archive.{pointer_step};
-ghost use Rattle.refusal.specs.Told.{told};
+ghost use Rattle.refusal.specs.Told.{told, told_by};
 ghost use Rattle.kind.specs.Asked.{Seated};
-ghost use Rattle.format.proofs.LinkLaws.{pointer_laws};
+ghost use Rattle.format.proofs.LinkLaws.{link_laws};
 
+use crate::mark::{FarArrayMark, Mark, PointerMark};
 use crate::{ALIGN, SIZE};
 use buffer::put_at;
 use distance::follow;
@@ -13,38 +15,60 @@ use endian::order::Endian;
 use holding::{behind_front, far_tail, held, led, reach};
 use kind::{Found, Kind, OneStep};
 use refusal::Refusal;
-use sheet::{marked, marks};
+use rows::Items;
+use sheet::marked;
 use std::marker::PhantomData;
 
 #[derive(Drop)]
-pub struct RelativePtr<K: Kind, E: Endian> {
+pub struct Link<M: Mark, K: Kind, E: Endian> {
     item: K,
+    mark: PhantomData<M>,
     order: PhantomData<E>,
 }
 
-impl<K: Kind, E: Endian> RelativePtr<K, E> {
+impl<K: Kind, E: Endian> Link<PointerMark, K, E> {
     pub fn new(item: K) -> Self
         ensures { result.item ≡ item }
     {
-        RelativePtr {
+        Link::to(item)
+    }
+}
+
+impl<K: Kind + Drop, E: Endian> Link<FarArrayMark, Items<K>, E> {
+    // Of 1 to 65,535 items; another count is refused.
+    pub fn new(item: K, count: u32) -> Result<Self, Refusal>
+        ensures told { told_by (λ a. a.item.count.value) result ≡ counted count }
+        ensures item { IfOk result (λ a. a.item.item ≡ item) }
+    {
+        let items = Items::new(item, count)?;
+        Ok(Link::to(items))
+    }
+}
+
+impl<M: Mark, K: Kind, E: Endian> Link<M, K, E> {
+    fn to(item: K) -> Self
+        ensures { result.item ≡ item }
+    {
+        Link {
             item,
+            mark: PhantomData,
             order: PhantomData,
         }
     }
 
     // Where the distance at a place leads, if the item sits there.
     fn target(&self, archive: &[u8], at: usize) -> Result<usize, Refusal>
-        requires { Seated (pointer (K.Kind.meaning self.now.item) E.Endian.order) archive.now at }
+        requires { Seated (link M.Mark.MARK (K.Kind.meaning self.now.item) E.Endian.order) archive.now at }
         ensures { told result ≡ linked (K.Kind.meaning self.now.item) E.Endian.order archive.now at }
     {
         follow::<E>(archive, at, self.item.size(), self.item.align())
     }
 }
 
-impl<K: Kind, E: Endian> Kind for RelativePtr<K, E> {
-    ghost meaning = { λ k. pointer (K.Kind.meaning k.item) E.Endian.order };
+impl<M: Mark, K: Kind, E: Endian> Kind for Link<M, K, E> {
+    ghost meaning = { λ k. link M.Mark.MARK (K.Kind.meaning k.item) E.Endian.order };
 
-    ghost lawful = { λ k. pointer_laws (K.Kind.meaning k.item) E.Endian.order (K.Kind.lawful k.item) E.Endian.undoes };
+    ghost lawful = { λ k. link_laws M.Mark.MARK (K.Kind.meaning k.item) E.Endian.order M.Mark.bytes M.Mark.two (K.Kind.lawful k.item).keeps E.Endian.undoes };
 
     fn size(&self) -> usize {
         SIZE
@@ -55,7 +79,7 @@ impl<K: Kind, E: Endian> Kind for RelativePtr<K, E> {
     }
 
     fn scan(&self, sheet: &[u8], at: usize) -> Result<usize, Refusal> {
-        let item = marked(sheet, at, marks::RP, 0)?;
+        let item = marked(sheet, at, &M::MARK, 0)?;
         held(self.item.scan(sheet, item))
     }
 
@@ -91,12 +115,12 @@ impl<K: Kind, E: Endian> Kind for RelativePtr<K, E> {
     }
 
     fn copy(&self, archive: &[u8], at: usize, out: &mut [u8], to: usize) -> usize {
-        put_at(out, to, marks::RP);
+        put_at(out, to, &M::MARK);
         self.item.copy(archive, led::<E>(archive, at), out, to + 2)
     }
 }
 
-impl<K: Kind, E: Endian> OneStep for RelativePtr<K, E> {
+impl<M: Mark, K: Kind, E: Endian> OneStep for Link<M, K, E> {
     ghost step = { λ k. pointer_step (K.Kind.meaning k.item) E.Endian.order };
 
     fn one_step<'a>(&self, archive: &'a [u8], at: usize) -> Result<Found<'a>, Refusal> {

@@ -2,7 +2,7 @@ use Rattle.std.proofs.Common.{◌≡◌, ℕ, sym, ap, ◌∙◌, ⊎_elim, arit
 use Rattle.format.specs.Orders.{Width}
 use Rattle.format.specs.Sheets.{number_mark}
 use Rattle.format.proofs.OrderLaws.{width_cases}
-use Rattle.scalars.proofs.scalar.NumberScalar.mark.Goals as goal
+use Rattle.scalars.proofs.scalar.NumberScalar.MARK.Goals as goal
 
 -- a width that is none of the other three is 8
 eight : (w v : ℕ) → Width w → v ≡ w → (v ≡ 1 → ⊥) → (v ≡ 2 → ⊥) → (v ≡ 4 → ⊥) → number_mark 8 ≡ number_mark w
