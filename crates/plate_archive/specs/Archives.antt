@@ -1,10 +1,10 @@
 -- An archive of plates: its three lists, and what is found of them. Assumes nothing.
-use Rattle.std.specs.Prelude.{ℕ, ◌&&◌, cond, List, ◌==◌}
+use Rattle.std.specs.Prelude.{◌≡◌, ℕ, ◌+◌, ◌*◌, ◌<◌, ◌&&◌, cond, List, ◌==◌}
 use Rattle.std.specs.Str.{bytes_eq}
 use Rattle.format.specs.Orders.{little}
 use Rattle.format.specs.Answers.{Answer, Fault, good, bad, both}
 use Rattle.format.specs.Meaning.{Meaning}
-use Rattle.format.specs.Texts.{text_kind}
+use Rattle.format.specs.Texts.{text_kind, text_at}
 use Rattle.format.specs.Links.{pointer, slice, linked, Span, slice_at}
 use Rattle.format.specs.Archive.{rooted, is_valid_deep, sheet_at}
 use Rattle.plate_archive.specs.declared.roots.Which.{Which}
@@ -45,6 +45,10 @@ target_at m a p = both (rooted (pointer_to m) a p) (λ _. linked m little a p)
 abbrev pub items_at : Meaning → List ℕ → ℕ → Answer Span
 items_at m a p = both (rooted (slice_of m) a p) (λ _. slice_at m little a p)
 
+-- the text at p
+abbrev pub text_of : List ℕ → ℕ → Answer (List ℕ)
+text_of a p = both (rooted text a p) (λ _. both (text_at little a p) (λ x. good x.bytes))
+
 -- where a list is
 abbrev pub place_of : Which → List ℕ → Answer ℕ
 place_of w a = target_at (list w) a (root_place w)
@@ -73,6 +77,10 @@ pub data Wrong : Type 0 where
 pub data Judged (A : Type 0) : Type 0 where
   sound : A → Judged A
   wrong : Wrong → Judged A
+
+abbrev pub IsSound : {A : Type 0} → Judged A → Type 0
+IsSound (sound a) = Unit {0}
+IsSound (wrong x) = ⊥
 
 -- the second, which is given what the first finds
 abbrev pub then : {A B : Type 0} → Judged A → (A → Judged B) → Judged B
@@ -110,3 +118,14 @@ same w s b = cond (bytes_eq s b) (sound tt) (wrong (altered w))
 -- that an archive is sound, and its sheets are those that it was built from
 abbrev pub verified : Three (List ℕ) → List ℕ → Judged (Unit {0})
 verified b a = then (sheets a) (λ s. then (same Numbers s.numbers b.numbers) (λ _. then (same Casts s.casts b.casts) (λ _. same Parts s.parts b.parts)))
+
+-- each of texts is read: the heads of texts, as of slices, are 8 bytes long
+abbrev pub AllTexts : List ℕ → Span → Type 0
+AllTexts a s = (k : ℕ) → k < s.count → (bs : List ℕ) × (text_of a (s.place + k * 8) ≡ good bs)
+
+-- of an archive with such lists: every plate has its number, its cast and its parts, and each list its sheet
+pub record Readable (a : List ℕ) (t : Three Span) : Type 0 where
+  pub numbers : AllTexts a t.numbers
+  pub casts : AllTexts a t.casts
+  pub parts : (k : ℕ) → k < t.parts.count → (s : Span) × ((items_at text a (t.parts.place + k * 8) ≡ good s) × AllTexts a s)
+  pub copied : (s : Three (List ℕ)) × (sheets a ≡ sound s)

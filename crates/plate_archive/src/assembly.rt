@@ -41,8 +41,7 @@ fn build<R: Root>(
     sheet: &[u8],
 ) -> Result<usize, Refusal> {
     let place = builder.build(buffer, &list_of::<R>(), sheet)?;
-    // The mask changes no distance within the limit, and shows that it fits.
-    let distance = place.saturating_sub(R::which().place()) & 0x7fff_ffff;
+    let distance = place.saturating_sub(R::which().place());
     builder.write(
         buffer,
         R::which().place(),

@@ -1,7 +1,7 @@
 // The sheets of the three lists, copied out of an archive.
 ghost use Rattle.std.specs.Prelude.{◌≡◌, vec_items, IfOk};
 ghost use Rattle.format.specs.Archive.{sheet_at};
-ghost use Rattle.plate_archive.specs.Archives.{on, list, sheet_of, sheets as sheets_by, same, verified, sound};
+ghost use Rattle.plate_archive.specs.Archives.{IsSound, check as check_by, on, list, sheet_of, sheets as sheets_by, same, verified, sound};
 ghost use Rattle.plate_archive.specs.Told.{judged, Says, sheets_of};
 
 use crate::fault::Fault;
@@ -44,7 +44,8 @@ pub fn copy<R: Root>(heap: Global, archive: &[u8]) -> Result<Vec<u8>, Fault>
 
 // The sheets of the three lists of an archive that is sound.
 pub fn sheets(heap: Global, archive: &[u8]) -> Result<Sheets, Fault>
-    ensures { Says (judged sheets_of result) (sheets_by archive.now) }
+    ensures told { Says (judged sheets_of result) (sheets_by archive.now) }
+    ensures sound { IfOk result (λ _. IsSound (check_by archive.now)) }
 {
     check(archive)?;
     Ok(PerList {

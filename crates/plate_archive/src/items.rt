@@ -1,11 +1,7 @@
 // One step from a pointer, a slice or a text of an archive.
 ghost use Rattle.std.specs.Prelude.{◌≡◌};
-ghost use Rattle.format.specs.Answers.{good, both};
-ghost use Rattle.format.specs.Archive.{rooted};
-ghost use Rattle.format.specs.Orders.{little};
-ghost use Rattle.format.specs.Texts.{text_at as text_by};
 ghost use Rattle.refusal.specs.Told.{told, told_by};
-ghost use Rattle.plate_archive.specs.Archives.{text, items_at as items_by, place_of, items_of};
+ghost use Rattle.plate_archive.specs.Archives.{text, text_of, items_at as items_by, place_of, items_of};
 ghost use Rattle.plate_archive.specs.Told.{span_of};
 
 use crate::roots::{Root, Slice, Text, pointer_to};
@@ -60,7 +56,7 @@ pub fn texts_at(archive: &[u8], place: usize) -> Result<Items, Refusal>
 
 // The text at a place, which is the part of the archive itself.
 pub fn text_at(archive: &[u8], place: usize) -> Result<&str, Refusal>
-    ensures { told_by (λ x. x.now) result ≡ both (rooted text archive.now place) (λ _. both (text_by little archive.now place) (λ x. good x.bytes)) }
+    ensures { told_by (λ x. x.now) result ≡ text_of archive.now place }
 {
     match get(&Text::new(), archive, place)? {
         // It was found to be text.

@@ -1,6 +1,6 @@
 // Whether an archive is sound.
-ghost use Rattle.std.specs.Prelude.{◌≡◌};
-ghost use Rattle.plate_archive.specs.Archives.{check as check_by, on, items_of, even as even_by};
+ghost use Rattle.std.specs.Prelude.{◌≡◌, IfOk};
+ghost use Rattle.plate_archive.specs.Archives.{IsSound, Readable, check as check_by, on, items_of, even as even_by};
 ghost use Rattle.plate_archive.specs.Told.{judged, span_of, spans_of};
 
 use crate::fault::Fault;
@@ -35,7 +35,9 @@ fn even(lists: PerList<Items>) -> Result<PerList<Items>, Fault>
 
 // Reads all of an archive: each list by itself, and that they are of the same plates, one at least.
 pub fn check(archive: &[u8]) -> Result<PerList<Items>, Fault>
-    ensures { judged spans_of result ≡ check_by archive.now }
+    ensures told { judged spans_of result ≡ check_by archive.now }
+    ensures sound { IfOk result (λ _. IsSound (check_by archive.now)) }
+    ensures readable { IfOk result (λ x. Readable archive.now (spans_of x)) }
 {
     even(PerList {
         numbers: items::<Numbers>(archive)?,

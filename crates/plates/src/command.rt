@@ -1,4 +1,7 @@
 // The commands, and the words that they are asked for by.
+ghost use Rattle.std.specs.Prelude.{IfOk};
+ghost use Rattle.plate_archive.specs.Archives.{check as check_by, IsSound};
+
 use crate::build::Built;
 use crate::input::read;
 use crate::name::Name;
@@ -78,13 +81,17 @@ too where standard output cannot be written. Reading more than 16 MiB is told of
 2,147,483,647 bytes are refused.
 ";
 
-fn checked(heap: Global, name: Name<'_>, archive: &[u8]) -> Result<String, NoAnswer> {
+fn checked(heap: Global, name: Name<'_>, archive: &[u8]) -> Result<String, NoAnswer>
+    ensures { IfOk result (λ _. IsSound (check_by archive.now)) }
+{
     let count = check(archive)?.numbers.count;
     let length = archive.len();
     Ok(format!(in heap; "{name} is sound: {count} plates in {length} bytes\n")?)
 }
 
-fn copied(heap: Global, archive: &[u8]) -> Result<Vec<u8>, NoAnswer> {
+fn copied(heap: Global, archive: &[u8]) -> Result<Vec<u8>, NoAnswer>
+    ensures { IfOk result (λ _. IsSound (check_by archive.now)) }
+{
     let sheets = sheets(heap, archive)?;
     let mut output = Vec::new(heap);
     for sheet in sheets.each() {
@@ -94,7 +101,10 @@ fn copied(heap: Global, archive: &[u8]) -> Result<Vec<u8>, NoAnswer> {
 }
 
 impl Question {
-    fn answer(self, heap: Global, name: Name<'_>, archive: &[u8]) -> Result<Vec<u8>, NoAnswer> {
+    // Whatever is asked, only an archive that is sound is answered for.
+    fn answer(self, heap: Global, name: Name<'_>, archive: &[u8]) -> Result<Vec<u8>, NoAnswer>
+        ensures { IfOk result (λ _. IsSound (check_by archive.now)) }
+    {
         match self {
             Question::Check => Ok(checked(heap, name, archive)?.into_bytes()),
             Question::List => Ok(plate_lines(heap, archive)?.into_bytes()),

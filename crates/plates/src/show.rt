@@ -1,4 +1,7 @@
-// What an archive holds, as text.
+// What an archive holds, as text; nothing is shown of one that is not sound.
+ghost use Rattle.std.specs.Prelude.{IfOk};
+ghost use Rattle.plate_archive.specs.Archives.{check as check_by, IsSound};
+
 use crate::trouble::NoAnswer;
 use plate_archive::{Casts, Fault, Items, Numbers, Parts, check, copy, text_at, texts_at};
 use plate_lists::list_words;
@@ -33,7 +36,9 @@ fn push_parts(text: &mut String, archive: &[u8], place: usize) -> Result<(), NoA
 }
 
 // A line for each plate: its index, its number, its cast, and the parts that were cut from it.
-pub(crate) fn plate_lines(heap: Global, archive: &[u8]) -> Result<String, NoAnswer> {
+pub(crate) fn plate_lines(heap: Global, archive: &[u8]) -> Result<String, NoAnswer>
+    ensures { IfOk result (λ _. IsSound (check_by archive.now)) }
+{
     let lists = check(archive)?;
     let mut text = String::new(heap);
     let numbers_and_casts = heads(lists.numbers).zip(heads(lists.casts));
@@ -78,7 +83,9 @@ fn push_totals(text: &mut String, words: &[Word], sheet_length: usize) -> Result
 }
 
 // The sheet of the plate numbers as it is copied out, read back word by word: each number with its place in the sheet, and then totals.
-pub(crate) fn word_lines(heap: Global, archive: &[u8]) -> Result<String, NoAnswer> {
+pub(crate) fn word_lines(heap: Global, archive: &[u8]) -> Result<String, NoAnswer>
+    ensures { IfOk result (λ _. IsSound (check_by archive.now)) }
+{
     check(archive)?;
     let sheet = copy::<Numbers>(heap, archive)?;
     let words = list_words(heap, sheet.as_slice())?;
