@@ -1,9 +1,8 @@
 // An archive of a plate list, built in memory.
-use crate::assemble::{Assembled, assemble};
 use crate::plate_list::PlateList;
-use crate::roots::{PerList, Sheets};
 use crate::trouble::Trouble;
 use builder::Finished;
+use plate_archive::{Assembled, PerList, Sheets, assemble};
 use std::alloc::{AllocError, Global};
 
 // An archive, the sheets that it was built from, and what was told of it.

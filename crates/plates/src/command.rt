@@ -1,12 +1,15 @@
 // The commands, and the words that they are asked for by.
-use crate::archived::{Fault, check, sheets};
+ghost use Rattle.std.specs.Prelude.{IfOk};
+ghost use Rattle.plate_archive.specs.Archives.{check as check_by, IsSound};
+
 use crate::build::Built;
 use crate::input::read;
 use crate::name::Name;
 use crate::round::round;
 use crate::show::{plate_lines, word_lines};
-use crate::trouble::Trouble;
+use crate::trouble::{NoAnswer, Trouble};
 use crate::whole::{put, refuse_place};
+use plate_archive::{check, sheets};
 use std::alloc::{AllocError, Global};
 
 // What an archive is asked for.
@@ -78,13 +81,17 @@ too where standard output cannot be written. Reading more than 16 MiB is told of
 2,147,483,647 bytes are refused.
 ";
 
-fn checked(heap: Global, name: Name<'_>, archive: &[u8]) -> Result<String, Fault> {
+fn checked(heap: Global, name: Name<'_>, archive: &[u8]) -> Result<String, NoAnswer>
+    ensures { IfOk result (λ _. IsSound (check_by archive.now)) }
+{
     let count = check(archive)?.numbers.count;
     let length = archive.len();
     Ok(format!(in heap; "{name} is sound: {count} plates in {length} bytes\n")?)
 }
 
-fn copied(heap: Global, archive: &[u8]) -> Result<Vec<u8>, Fault> {
+fn copied(heap: Global, archive: &[u8]) -> Result<Vec<u8>, NoAnswer>
+    ensures { IfOk result (λ _. IsSound (check_by archive.now)) }
+{
     let sheets = sheets(heap, archive)?;
     let mut output = Vec::new(heap);
     for sheet in sheets.each() {
@@ -94,7 +101,10 @@ fn copied(heap: Global, archive: &[u8]) -> Result<Vec<u8>, Fault> {
 }
 
 impl Question {
-    fn answer(self, heap: Global, name: Name<'_>, archive: &[u8]) -> Result<Vec<u8>, Fault> {
+    // Whatever is asked, only an archive that is sound is answered for.
+    fn answer(self, heap: Global, name: Name<'_>, archive: &[u8]) -> Result<Vec<u8>, NoAnswer>
+        ensures { IfOk result (λ _. IsSound (check_by archive.now)) }
+    {
         match self {
             Question::Check => Ok(checked(heap, name, archive)?.into_bytes()),
             Question::List => Ok(plate_lines(heap, archive)?.into_bytes()),
@@ -108,7 +118,7 @@ fn ask<'a>(rt: &HostRuntime, question: Question, name: Name<'a>) -> Result<Vec<u
     let archive = read(rt, name)?;
     question
         .answer(rt.alloc(), name, archive.as_slice())
-        .map_err(|fault| Trouble::Archive { name, fault })
+        .map_err(|reason| Trouble::Archive { name, reason })
 }
 
 fn build<'a>(rt: &HostRuntime, list: Name<'a>, path: &'a str) -> Result<Vec<u8>, Trouble<'a>> {

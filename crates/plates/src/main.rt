@@ -1,14 +1,11 @@
 // plates: builds an archive of a plate list, checks one, lists it, and copies its sheets out.
 #![tactic(auto)]
 
-mod archived;
-mod assemble;
 mod build;
 mod command;
 mod input;
 mod name;
 mod plate_list;
-mod roots;
 mod round;
 mod show;
 mod trouble;

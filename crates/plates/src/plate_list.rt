@@ -1,5 +1,5 @@
 // A plate list: a line a plate, its fields parted by semicolons.
-use crate::roots::{PerList, Sheets};
+use plate_archive::{PerList, Sheets};
 use plate_lists::{ListError, Plate, lines, plate_of, sheet_of_lists, sheet_of_texts};
 use std::alloc::{AllocError, Global};
 use thiserror::Error;

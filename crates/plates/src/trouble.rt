@@ -1,12 +1,23 @@
 // Why the program did not do what it was asked to. What is said of it on standard error is written here, and printed by `main`.
-use crate::archived::Fault;
-use crate::assemble::AssembleError;
 use crate::name::Name;
 use crate::plate_list::ListFault;
+use plate_archive::{AssembleError, Fault};
+use plate_lists::ListError;
 use refusal::Refusal;
 use std::alloc::AllocError;
 use std::io;
 use thiserror::Error;
+
+// Why what is asked of an archive is not answered, said behind its name.
+#[derive(Debug, Drop, Error)]
+pub enum NoAnswer {
+    #[error(transparent)]
+    Fault(#[from] Fault),
+    #[error("is refused: the sheet of the plate numbers: {0}")]
+    Sheet(#[from] ListError),
+    #[error("needs more memory than there is")]
+    Memory(#[from(alloc)] AllocError),
+}
 
 #[derive(Debug, Drop, Error)]
 pub enum Trouble<'a> {
@@ -62,13 +73,13 @@ pub enum Trouble<'a> {
     List(#[from] ListFault),
     #[error(transparent)]
     Assemble(#[from] AssembleError),
-    #[error("{name} {fault}")]
+    #[error("{name} {reason}")]
     Archive {
         name: Name<'a>,
-        fault: Fault,
+        reason: NoAnswer,
     },
     #[error("the archive {0}")]
-    InMemory(#[from] Fault),
+    InMemory(#[from] NoAnswer),
     #[error("cannot write to standard output: {0}")]
     Output(io::Error),
     #[error("out of memory")]

@@ -1,10 +1,9 @@
 // Writing an archive whole, or not at all.
-use crate::archived::verify;
 use crate::build::Built;
 use crate::input::read;
 use crate::name::Name;
-use crate::roots::Sheets;
 use crate::trouble::Trouble;
+use plate_archive::{Sheets, verify};
 use std::alloc::AllocError;
 use std::fs;
 use std::fs::{File, Metadata};
@@ -53,7 +52,10 @@ fn fill<'a>(mut file: File, name: Name<'a>, bytes: &[u8]) -> Result<(), Trouble<
 
 fn verify_file<'a>(rt: &HostRuntime, name: Name<'a>, sheets: &Sheets) -> Result<(), Trouble<'a>> {
     let bytes = read(rt, name)?;
-    verify(rt.alloc(), bytes.as_slice(), sheets).map_err(|fault| Trouble::Archive { name, fault })
+    verify(rt.alloc(), bytes.as_slice(), sheets).map_err(|fault| Trouble::Archive {
+        name,
+        reason: fault.into(),
+    })
 }
 
 fn fill_and_rename<'a>(

@@ -41,11 +41,10 @@ fn build<R: Root>(
     sheet: &[u8],
 ) -> Result<usize, Refusal> {
     let place = builder.build(buffer, &list_of::<R>(), sheet)?;
-    // The mask changes no distance within the limit, and shows that it fits.
-    let distance = place.saturating_sub(R::PLACE) & 0x7fff_ffff;
+    let distance = place.saturating_sub(R::which().place());
     builder.write(
         buffer,
-        R::PLACE,
+        R::which().place(),
         &LittleEndian::from_native_u32(distance as u32),
     )?;
     Ok(place)
@@ -67,10 +66,7 @@ fn assemble_in(buffer: &mut [u8], sheets: &Sheets) -> Result<Assembled, Refusal>
 }
 
 // The bytes of the archive, and what was told of it.
-pub(crate) fn assemble(
-    heap: Global,
-    sheets: &Sheets,
-) -> Result<(Vec<u8>, Assembled), AssembleError> {
+pub fn assemble(heap: Global, sheets: &Sheets) -> Result<(Vec<u8>, Assembled), AssembleError> {
     let mut buffer = vec![in heap; 0; room_for(sheets)]?;
     let assembled = assemble_in(buffer.as_mut_slice(), sheets)?;
     buffer.truncate(assembled.finished.length);

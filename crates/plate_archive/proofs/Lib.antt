@@ -1,0 +1,3 @@
+pub mod TextLaws
+pub mod CopyLaws
+pub mod SoundLaws

@@ -1,0 +1,36 @@
+-- What an archive's items and faults of the code say. Assumes nothing.
+use Rattle.std.specs.Prelude.{◌≡◌, ℕ, List, Ok, Err, Result, vec_items}
+use Rattle.std.specs.Global.{Vec}
+use Rattle.format.specs.Links.{Span}
+use Rattle.refusal.specs.Told.{fault_of}
+use Rattle.plate_archive.specs.declared.items.Items.{Items}
+use Rattle.plate_archive.specs.declared.fault.Fault.{Fault}
+use Rattle.plate_archive.specs.declared.fault.Fault.TheVariants.{Refused, Uneven, NoPlates, Altered, Memory}
+use Rattle.plate_archive.specs.declared.roots.PerList.{PerList}
+use Rattle.plate_archive.specs.Archives.{Three, Wrong, refused, uneven, no_plates, altered, no_memory, Judged, sound, wrong}
+
+abbrev pub span_of : Items → Span
+span_of x = record { place = x.place; count = x.count }
+
+abbrev pub spans_of : PerList Items → Three Span
+spans_of x = record { numbers = span_of x.numbers; casts = span_of x.casts; parts = span_of x.parts }
+
+abbrev pub sheets_of : PerList (Vec ℕ) → Three (List ℕ)
+sheets_of x = record { numbers = vec_items x.numbers; casts = vec_items x.casts; parts = vec_items x.parts }
+
+abbrev pub wrong_of : Fault → Wrong
+wrong_of (Refused w r) = refused w (fault_of r)
+wrong_of (Uneven n c p) = uneven n c p
+wrong_of NoPlates = no_plates
+wrong_of (Altered w) = altered w
+wrong_of Memory = no_memory
+
+-- what a result says, its value read by f
+abbrev pub judged : {A B : Type 0} → (A → B) → Result A Fault → Judged B
+judged f (Ok v) = sound (f v)
+judged f (Err e) = wrong (wrong_of e)
+
+-- what is said is what is so, unless there was no memory, which says nothing
+abbrev pub Says : {A : Type 0} → Judged A → Judged A → Type 0
+Says (wrong no_memory) y = Unit {0}
+Says x y = x ≡ y
