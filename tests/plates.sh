@@ -324,6 +324,7 @@ refuses "a word that is empty" "there is no command ''" ''
 refuses "a word too few" "this command is written 'plates build LIST FILE'" build one.txt
 refuses "no word" "this command is written 'plates check FILE'" check
 refuses "a word too many" "this command is written 'plates list FILE'" list boat.plates twice
+refuses "a word behind help" "this command is written 'plates help'" help check
 refuses "a word that is no text" "the words" check $'\xff'
 
 echo "tests/plates: $passed passed, $failed failed"
