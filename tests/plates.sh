@@ -57,6 +57,14 @@ check "with no words, the round on standard input" $?
 printf 'P1;C8\nP2\n' | "$bin" >out 2>err
 [ $? -eq 1 ] && [ ! -s out ] && grep -qF "plates: line 2 of the list" err
 check "the round on a list that is refused" $?
+# The last byte is the highest of the distance of an empty list of parts; turned, it leads 16 MiB back, where such a list may
+# stand too. An archive with fewer bytes than that would end before.
+{ head -c 17000000 /dev/zero | tr '\0' P && echo ';C8'; } >wide.txt
+"$bin" <wide.txt >out 2>err
+last=$(($(sed -n '1s/.* \([0-9]*\) bytes, alignment 4$/\1/p' out) - 1))
+[ "$(cat err)" = "plates: standard input: 16 MiB read .." ] && [ "$(tail -n 1 out)" = "with byte $last damaged it is still sound" ]
+check "the round on an archive whose damage is not seen" $?
+rm -f wide.txt
 
 # The sample boat
 accepts "the sample boat is built" "written to boat.plates" build "$sample" boat.plates
@@ -162,6 +170,10 @@ refuses "a folder that is not there" "cannot write nowhere/boat.plates.part: No 
 mkdir taken
 refuses "a name that is taken by a folder" "taken is a directory" build "$sample" taken
 refuses "a folder is no archive" "taken is a directory" check taken
+refuses "a name that is empty" "cannot rename .part to : No such file or directory" build "$sample" ''
+[ ! -e .part ]
+check "what was written for it is taken away" $?
+refuses "a file that cannot be read" "cannot read /proc/self/mem: Input/output error" check /proc/self/mem
 mkfifo pipe
 refuses "a name that is taken by a pipe" "pipe is there, and is no file" build "$sample" pipe
 [ -p pipe ] && [ ! -e pipe.part ] && [ ! -e taken.part ]
@@ -181,6 +193,44 @@ wait
 [ -z "$(ls wrong.* 2>/dev/null)" ] && [ ! -e busy.part ] && cmp -s busy boat.plates
 check "many builds of one file at once" $?
 
+# What is written is read again before it gets its name: what was done to it in between is found.
+seq -f 'PL-%.0f;C-1;keel web 1' 1 200000 >longer.txt
+"$bin" build longer.txt longer.plates >out 2>err
+end=$(($(stat -c %s longer.plates) - 1))
+
+# meddled COMMAND..: builds the long list as late.plates, and runs the command while the build stands still with late.plates.part
+# written; once more where the build was too fast. The build's status, with what it says in out and err.
+meddled() {
+    local builder status try
+    for try in 1 2 3 4 5 6 7 8 9 10; do
+        rm -rf late.plates late.plates.part
+        "$bin" build longer.txt late.plates >out 2>err &
+        builder=$!
+        until [ -s late.plates.part ] || ! kill -0 "$builder" 2>/dev/null; do :; done
+        kill -STOP "$builder" 2>/dev/null
+        until grep -qs '^State:.[TZ]' "/proc/$builder/status" || ! kill -0 "$builder" 2>/dev/null; do :; done
+        [ -e late.plates.part ] && "$@"
+        kill -CONT "$builder" 2>/dev/null
+        wait "$builder"
+        status=$?
+        [ "$status" -eq 0 ] || break
+    done
+    return "$status"
+}
+
+meddled byte "$end" FF late.plates.part
+[ $? -eq 1 ] && [ ! -s out ] && grep -qF "plates: late.plates.part is refused: the list of parts: bytes in the archive that are not UTF-8 text" err
+check "a byte that was damaged before it was read again" $?
+meddled byte "$end" 32 late.plates.part
+[ $? -eq 1 ] && [ ! -s out ] && [ "$(cat err)" = "plates: late.plates.part is not what was built: the list of parts is another" ]
+check "a letter that was altered before it was read again" $?
+[ ! -e late.plates ] && [ ! -e late.plates.part ]
+check "neither got the name, and neither is left beside" $?
+meddled mkdir late.plates
+[ $? -eq 1 ] && [ ! -s out ] && grep -qF "plates: cannot rename late.plates.part to late.plates: Is a directory" err && [ ! -e late.plates.part ]
+check "a name that a folder took in the meantime" $?
+rm -rf late.plates longer.txt longer.plates
+
 # Large files, and one that changes while it is read
 truncate -s 2147483648 large
 refuses "a file over the limit" "large is refused: more bytes than the limit of 2,147,483,647 (refusal 1, place 0, depth 0)" check large
@@ -190,6 +240,26 @@ cp one.plates middle
 truncate -s 20M middle
 "$bin" check middle >out 2>err && [ "$(cat err)" = "plates: middle: 16 MiB read .." ] && grep -qF "middle is sound: 1 plates in 20971520 bytes" out
 check "a large file is told of as it is read" $?
+truncate -s 33554433 middle
+"$bin" check middle >out 2>err && [ "$(cat err)" = "plates: middle: 16 MiB read ..
+plates: middle: 32 MiB read .." ]
+check "it is told of more than once" $?
+truncate -s 16777217 middle
+"$bin" check middle >out 2>err && [ "$(cat err)" = "plates: middle: 16 MiB read .." ]
+check "a byte more than 16 MiB is told of" $?
+truncate -s 16777215 middle
+accepts "a byte less is not" "middle is sound: 1 plates in 16777215 bytes" check middle
+truncate -s 20M middle
+# All that may be read is read: no block too few.
+truncate -s 2147483647 most
+"$bin" check most >out 2>err
+[ $? -eq 1 ] && [ ! -s out ] && [ "$(tail -n 1 err)" = "plates: most is refused: it has no plates" ] && [ "$(wc -l <err)" -eq 128 ]
+check "a file at the limit is read" $?
+rm -f most
+# What cannot say how long it is ends there too.
+"$bin" check - </dev/zero >out 2>err
+[ $? -eq 1 ] && [ ! -s out ] && [ "$(tail -n 1 err)" = "plates: standard input is refused: more bytes than the limit of 2,147,483,647 (refusal 1, place 0, depth 0)" ]
+check "standard input over the limit" $?
 truncate -s 4096 zeros
 refuses "zeros, which read as three empty lists" "zeros is refused: it has no plates" check zeros
 truncate -s 1G shrunk
@@ -230,7 +300,25 @@ check "progress that cannot be told" $?
 
 # The words of the command line
 accepts "help" "plates build LIST FILE" help
-"$bin" --help | cmp -s - out
+cmp -s out - <<'END'
+plates build LIST FILE   builds the archive FILE from the plate list LIST
+plates check FILE        reads all of an archive, and says what is wrong and where
+plates list FILE         shows each plate: its number, its cast, the parts that were cut from it
+plates words FILE        shows the sheet of the plate numbers: each with its place in it and its length, then totals
+plates copy FILE         writes the sheets of the three lists to standard output, one behind another
+plates help              shows this
+plates                   the whole round in memory, on the list that standard input has; at its end a byte is damaged
+
+A plate list is UTF-8 text with a line a plate: number;cast;part;part;..  A plate of which nothing was cut has no parts.
+Where a list or an archive is read, '-' stands for standard input. FILE may not be LIST, nor anything that is no file.
+build writes FILE.part, reads it again, checks it, copies its lists out, compares, and only then renames it to FILE: what
+has the name FILE is always whole. Where a build was cut off FILE.part stays, and the next build says so: remove it then.
+Where anything is refused, standard error says why, standard output has nothing, and the exit status is 1; the status is 1
+too where standard output cannot be written. Reading more than 16 MiB is told of on standard error. More than
+2,147,483,647 bytes are refused.
+END
+check "all of it" $?
+"$bin" --help | cmp -s - out && "$bin" -h | cmp -s - out
 check "it is also asked for as an option" $?
 refuses "a command that is none" "there is no command 'nonsense'" nonsense
 refuses "an option that is none" "there is no command '--deep'" --deep
@@ -238,6 +326,7 @@ refuses "a word that is empty" "there is no command ''" ''
 refuses "a word too few" "this command is written 'plates build LIST FILE'" build one.txt
 refuses "no word" "this command is written 'plates check FILE'" check
 refuses "a word too many" "this command is written 'plates list FILE'" list boat.plates twice
+refuses "a word behind help" "this command is written 'plates help'" help check
 refuses "a word that is no text" "the words" check $'\xff'
 
 echo "tests/plates: $passed passed, $failed failed"
