@@ -1,12 +1,12 @@
 // A kind as a use is handed it: one that leads somewhere with its step.
 ghost use Rattle.std.specs.Prelude.{ℕ, List, Option, Some, None};
 ghost use Rattle.format.specs.Answers.{Answer};
-ghost use Rattle.format.specs.Archive.{Found, pointer_step, far_array_step, slice_step, text_step, inline_step};
+ghost use Rattle.format.specs.Archive.{Found, pointer_step, slice_step, text_step, inline_step};
 
 use crate::purpose::Use;
 use endian::order::Endian;
 use kind::Kind;
-use links::{Array, RelativePtr, ZeroArray, ZeroSlice};
+use links::{Array, Link, Mark, ZeroSlice};
 use scalars::{Scalar, ScalarKind};
 use texts::{ZeroStr, ZeroString};
 
@@ -41,7 +41,7 @@ impl<E: Endian> Usable for ZeroString<E> {
     }
 }
 
-impl<K: Kind, E: Endian> Usable for RelativePtr<K, E> {
+impl<M: Mark, K: Kind, E: Endian> Usable for Link<M, K, E> {
     ghost leads = { λ k. Some (pointer_step (K.Kind.meaning k.item) E.Endian.order) };
 
     fn serve<U: Use>(&self, purpose: &mut U) -> U::Answer {
@@ -54,14 +54,6 @@ impl<K: Kind> Usable for Array<K> {
 
     fn serve<U: Use>(&self, purpose: &mut U) -> U::Answer {
         purpose.with(self)
-    }
-}
-
-impl<K: Kind, E: Endian> Usable for ZeroArray<K, E> {
-    ghost leads = { λ k. Some (far_array_step k.count.value (K.Kind.meaning k.item) E.Endian.order) };
-
-    fn serve<U: Use>(&self, purpose: &mut U) -> U::Answer {
-        purpose.with_step(self)
     }
 }
 
