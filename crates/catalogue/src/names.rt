@@ -42,7 +42,8 @@ type Truths<E> = ScalarKind<Truth, E>;
 
 type Characters<E> = ScalarKind<Character, E>;
 
-// Some of the kinds that can be named.
+// Some of the kinds that can be named. Each part's `run` is a function of its own in the machine code too: inlined into one, a name of
+// one letter would wait while room is made for what all others answer.
 trait Part {
     ghost forms: { List Form };
 
@@ -56,6 +57,7 @@ struct Leaf;
 impl Part for Leaf {
     ghost forms = { leaves };
 
+    #[inline(never)]
     fn run<H: Hold, E: Endian, U: Use>(name: &[u8], purpose: &mut U) -> Result<U::Answer, Missing> {
         match name {
             b"1" => H::run::<_, E, U>(Number1::<E>::new(), purpose),
@@ -114,6 +116,7 @@ struct Layer<P: Part>(PhantomData<P>);
 impl<P: Part> Part for Layer<P> {
     ghost forms = { leaves ++ held P.forms };
 
+    #[inline(never)]
     fn run<H: Hold, E: Endian, U: Use>(name: &[u8], purpose: &mut U) -> Result<U::Answer, Missing> {
         match split_front(name) {
             Some((Front::Pointer, rest)) => P::run::<Pointed<H>, E, U>(rest, purpose),
@@ -131,6 +134,7 @@ struct Deep;
 impl Part for Deep {
     ghost forms = { deeper };
 
+    #[inline(never)]
     fn run<H: Hold, E: Endian, U: Use>(name: &[u8], purpose: &mut U) -> Result<U::Answer, Missing> {
         if name == b"psst".as_slice() {
             Sliced::<Sliced<Pointed<H>>>::run::<_, E, U>(ZeroStr::<E>::new(), purpose)
@@ -178,6 +182,7 @@ struct Stopping;
 impl Part for Stopping {
     ghost forms = { vast };
 
+    #[inline(never)]
     fn run<H: Hold, E: Endian, U: Use>(name: &[u8], purpose: &mut U) -> Result<U::Answer, Missing> {
         if name == b"r65535.r65535.8".as_slice() {
             Arrayed::<Arrayed<H, MOST>, MOST>::run::<_, E, U>(Number8::<E>::new(), purpose)
@@ -203,6 +208,7 @@ struct Refusing;
 impl Part for Refusing {
     ghost forms = { bad_counts };
 
+    #[inline(never)]
     fn run<H: Hold, E: Endian, U: Use>(name: &[u8], purpose: &mut U) -> Result<U::Answer, Missing> {
         if name == b"r0.1".as_slice() {
             Arrayed::<H, 0>::run::<_, E, U>(Number1::<E>::new(), purpose)
