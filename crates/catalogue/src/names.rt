@@ -18,7 +18,7 @@ use scalars::{Character, Number, ScalarKind, Truth};
 use std::marker::PhantomData;
 use texts::{ZeroStr, ZeroString};
 
-// The most items that an array may have: a const argument has to be a constant's name, and `kind` keeps its own to itself.
+// The most items that an array may have, by a name; `kind` keeps its own to itself.
 const MOST: u32 = 65_535;
 
 // One more, which no array may have.

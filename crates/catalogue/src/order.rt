@@ -9,7 +9,7 @@ pub enum Order {
 }
 
 impl Order {
-    // By its ASCII letter.
+    // By its ASCII letter. No `TryFrom`: it would need an error, and there is one reason alone.
     pub fn named(letter: u8) -> Option<Order>
         ensures { result ≡ order_named letter }
     {

@@ -1,4 +1,5 @@
 // What C calls: `c/gachullpi.h` declares these functions, and says what is asked of their caller. A thin layer: each hands its call to the library.
+// An archive and a place stay two parameters here, since numbers and slices are what C hands over; behind this file they are one `Root`.
 #![tactic(auto)]
 
 ghost use Rattle.std.specs.Prelude.{◌≡◌};

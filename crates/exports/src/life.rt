@@ -56,6 +56,7 @@ fn live<'a>(
             course.stopped = Some(NotMade::NoCall);
             return course;
         };
+        // Counted here: it is told behind the loop, where an index of the answers would be gone.
         course.made = course.made.saturating_add(1);
         course.rest = behind;
         match step {

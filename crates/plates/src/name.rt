@@ -28,6 +28,7 @@ impl<'a> Name<'a> {
     }
 }
 
+// By hand: `thiserror` writes the words of errors, and a name is none.
 impl fmt::Display for Name<'_> {
     fn fmt<W: fmt::Write>(&self, f: &mut fmt::Formatter<W>) -> fmt::Result {
         match self {

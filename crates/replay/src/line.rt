@@ -13,7 +13,8 @@ fn order(word: &str) -> Result<Order, Unread> {
     }
 }
 
-// A call that is handed a buffer.
+// A call that is handed a buffer. Tasks, calls and roots are those that `exports` is handed too, but own their bytes, which a line has as
+// digits: one type that borrows them would have to be kept beside what it borrows from.
 #[derive(Drop)]
 pub enum Task<'a> {
     // With a kind of that name, in a byte order.

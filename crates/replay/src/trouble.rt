@@ -51,6 +51,7 @@ impl From<FromHexError> for Trouble {
     }
 }
 
+// By hand: each case is another error here.
 impl From<Missing> for Trouble {
     fn from(missing: Missing) -> Trouble {
         match missing {
