@@ -9,6 +9,8 @@ use Rattle.refusal.specs.Told.{cause_number, fault_of, refused}
 use Rattle.refusal.specs.declared.cause.Cause.{Cause}
 use Rattle.refusal.specs.declared.cause.Cause.TheVariants.{NoRoom}
 use Rattle.refusal.specs.declared.refusal.Refusal.{Refusal}
+use Rattle.plate_archive.specs.declared.roots.Which.{Which}
+use Rattle.plate_archive.specs.Archives.{on, sound}
 
 -- only 4 is the want of room
 no_room : (c : Cause) → cause_number c ≡ 4 → c ≡ NoRoom
@@ -60,3 +62,10 @@ module _ (b m : Meaning) (means : b ≡ m) (a : List ℕ) (p : ℕ) (out new : L
 
   pub copied-bad : (r : Refusal) → (r.cause ≡ NoRoom → ⊥) → record { answer = refused r; output = new } ≡ copy_out b a p out → sheet_at m a p ≡ refused r
   copied-bad r k h = ap (λ w. sheet_at w a p) (sym means) ∙ pour-bad (sheet_at b a p) out new r k h
+
+-- the part of an output that was filled, and what it says of a list
+pub truncated : (n k : ℕ) (new rest items : List ℕ) → items ≡ take n (take k (new ++ rest)) → length new ≡ k → items ≡ take n new
+truncated n k new rest items e l = e ∙ ap (take n) (take_at new rest k l)
+
+pub on-good : (w : Which) (x : Answer (List ℕ)) (s t : List ℕ) → x ≡ good t → s ≡ t → sound s ≡ on w x
+on-good w x s t h e = ap sound e ∙ sym (ap (on w) h)

@@ -10,7 +10,7 @@ use Rattle.format.specs.Archive.{rooted, is_valid_deep, sheet_at}
 use Rattle.plate_archive.specs.declared.roots.Which.{Which}
 use Rattle.plate_archive.specs.declared.roots.Which.TheVariants.{Numbers, Casts, Parts}
 
--- numbers and distances are little end first
+-- a text, a slice of values of m, and a pointer to one: numbers and distances are little end first
 abbrev pub text : Meaning
 text = text_kind little
 
@@ -26,6 +26,7 @@ item Numbers = text
 item Casts = text
 item Parts = slice_of text
 
+-- a list, as a slice of its items
 abbrev pub list : Which → Meaning
 list w = slice_of (item w)
 
@@ -57,6 +58,7 @@ place_of w a = target_at (list w) a (root_place w)
 abbrev pub items_of : Which → List ℕ → Answer Span
 items_of w a = both (is_valid_deep (root w) a (root_place w)) (λ _. both (place_of w a) (items_at (item w) a))
 
+-- the sheet of a list
 abbrev pub sheet_of : Which → List ℕ → Answer (List ℕ)
 sheet_of w a = both (place_of w a) (sheet_at (list w) a)
 
@@ -74,10 +76,12 @@ pub data Wrong : Type 0 where
   altered : Which → Wrong
   no_memory : Wrong
 
+-- what is found: a value, or what is wrong
 pub data Judged (A : Type 0) : Type 0 where
   sound : A → Judged A
   wrong : Wrong → Judged A
 
+-- nothing is wrong
 abbrev pub IsSound : {A : Type 0} → Judged A → Type 0
 IsSound (sound a) = Unit {0}
 IsSound (wrong x) = ⊥
