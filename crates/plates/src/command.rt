@@ -29,7 +29,8 @@ pub enum Command<'a> {
     Help,
 }
 
-// How a command is written behind the program's name, and what it does.
+// How a command is written behind the program's name, and what it does: a table, since `help` goes over all of them. Which words ask for
+// which command is the `match` of `Command::of`.
 struct Usage {
     name: &'static str,
     words: &'static str,
