@@ -229,6 +229,7 @@ impl<P: Part, Q: Part> Part for Or<P, Q> {
     ghost forms = { P.forms ++ Q.forms };
 
     fn run<H: Hold, E: Endian, U: Use>(name: &[u8], purpose: &mut U) -> Result<U::Answer, Missing> {
+        // Each case by its name: of one that only falls through, as `told => told`, the check has no fact that a proof could name.
         match P::run::<H, E, U>(name, purpose) {
             Ok(answer) => Ok(answer),
             Err(Missing::Refused(refusal)) => Err(Missing::Refused(refusal)),

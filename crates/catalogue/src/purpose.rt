@@ -13,7 +13,7 @@ pub trait Use {
     fn with<K: Kind>(&mut self, kind: &K) -> Self::Answer
         ensures { tells self.old (plain (K.Kind.meaning kind.now)) result self.new };
 
-    // With a kind that leads somewhere.
+    // With a kind that leads somewhere. Most uses say that it makes no difference; a body here would have to be proved of every use.
     fn with_step<K: OneStep>(&mut self, kind: &K) -> Self::Answer
         ensures { tells self.old (leading (K.Kind.meaning kind.now) (K.OneStep.step kind.now)) result self.new };
 }

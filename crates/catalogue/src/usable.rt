@@ -1,4 +1,5 @@
-// A kind as a use is handed it: one that leads somewhere with its step.
+// A kind as a use is handed it: one that leads somewhere with its step. Each kind says in a line which it is: a body in the trait would
+// have to be proved of kinds that lead and of kinds that don't.
 ghost use Rattle.std.specs.Prelude.{ℕ, List, Option, Some, None};
 ghost use Rattle.format.specs.Answers.{Answer};
 ghost use Rattle.format.specs.Archive.{Found, pointer_step, slice_step, text_step, inline_step};

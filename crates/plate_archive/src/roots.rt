@@ -25,6 +25,7 @@ pub enum Which {
     Parts,
 }
 
+// By hand: `thiserror` writes the words of errors, and a list is none.
 impl fmt::Display for Which {
     fn fmt<W: fmt::Write>(&self, f: &mut fmt::Formatter<W>) -> fmt::Result {
         f.write_str(match self {
