@@ -57,14 +57,10 @@ check "with no words, the round on standard input" $?
 printf 'P1;C8\nP2\n' | "$bin" >out 2>err
 [ $? -eq 1 ] && [ ! -s out ] && grep -qF "plates: line 2 of the list" err
 check "the round on a list that is refused" $?
-# The last byte is the highest of the distance of an empty list of parts; turned, it leads 16 MiB back, where such a list may
-# stand too. An archive with fewer bytes than that would end before.
-{ head -c 17000000 /dev/zero | tr '\0' P && echo ';C8'; } >wide.txt
-"$bin" <wide.txt >out 2>err
-last=$(($(sed -n '1s/.* \([0-9]*\) bytes, alignment 4$/\1/p' out) - 1))
-[ "$(cat err)" = "plates: standard input: 16 MiB read .." ] && [ "$(tail -n 1 out)" = "with byte $last damaged it is still sound" ]
+# The last byte is of the distance of an empty list of parts, at which no reader looks.
+printf 'P1;C8\n' | "$bin" >out 2>err
+[ "$(tail -n 1 out)" = "with byte 67 damaged it is still sound" ] && [ ! -s err ]
 check "the round on an archive whose damage is not seen" $?
-rm -f wide.txt
 
 # The sample boat
 accepts "the sample boat is built" "written to boat.plates" build "$sample" boat.plates
