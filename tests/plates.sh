@@ -310,7 +310,7 @@ Where a list or an archive is read, '-' stands for standard input. FILE may not 
 build writes FILE.part, reads it again, checks it, copies its lists out, compares, and only then renames it to FILE: what
 has the name FILE is always whole. Where a build was cut off FILE.part stays, and the next build says so: remove it then.
 Where anything is refused, standard error says why, standard output has nothing, and the exit status is 1; the status is 1
-too where standard output cannot be written. Reading more than 16 MiB is told of on standard error. More than
+too where standard output cannot be written. Each 16 MiB that are read are told of on standard error. More than
 2,147,483,647 bytes are refused.
 END
 check "all of it" $?
