@@ -1,2 +1,3 @@
+pub mod Sits
 mod ArrayCalls
 mod SliceCalls

@@ -1,18 +1,16 @@
 -- What a slice asks of its row, and what it answers by it. Assumes nothing.
-use Rattle.std.proofs.Common.{◌≡◌, ℕ, ◌+◌, ◌-◌, ◌^◌, ◌<◌, ◌≤◌, eqb, ◌⊎◌, Result, Ok, List, [], ◌++◌, length, take, drop, sym, refl, ap, ◌∙◌, subst, ap₂, inl, inr, append-nil, arith}
+use Rattle.std.proofs.Common.{◌≡◌, ℕ, ◌+◌, ◌-◌, ◌^◌, ◌<◌, ◌≤◌, Result, Ok, List, [], ◌++◌, length, take, drop, sym, refl, ap, ◌∙◌, subst, ap₂, append-nil, arith}
 use Rattle.std.proofs.lemmas.List.{length-append, take-take, drop-take}
-use Rattle.std.proofs.lemmas.Bool.{eq-eqb, ne_eqb, cases_eq}
 use Rattle.format.specs.Places.{limit, up, part, put, zeros, Bytes}
 use Rattle.format.specs.Orders.{Order, Undoes, number, low_first}
 use Rattle.format.specs.Answers.{good, both, shifted}
 use Rattle.format.specs.Sheets.{slice_mark, at_place, marked, any, number_of, number_read}
-use Rattle.format.specs.Meaning.{Meaning, Laws, Keeps, Sits}
+use Rattle.format.specs.Meaning.{Meaning, Laws, Keeps}
 use Rattle.format.specs.Items.{first_of, row}
-use Rattle.format.specs.Links.{behind, far, linked, Span, held, slice, slice_at}
+use Rattle.format.specs.Links.{behind, far, held, slice, slice_at}
 use Rattle.format.proofs.OrderLaws.{width_4, length-low_first}
-use Rattle.format.proofs.AnswerLaws.{unless-true, unless-false, both-good, both_parts, good-same}
+use Rattle.format.proofs.AnswerLaws.{both-good, good-same}
 use Rattle.format.proofs.LinkLaws.{slice-laws}
-use Rattle.format.proofs.FarLaws.{linked_parts}
 use Rattle.format.proofs.PutLaws.{put-put}
 use Rattle.format.proofs.RowLaws.{row_keeps}
 use Rattle.format.proofs.SheetLaws.{number_read-end, number_of_is, scan_number-any}
@@ -22,6 +20,7 @@ use Rattle.holding.proofs.FarCalls.{HeldFar}
 use Rattle.holding.proofs.Through.{held_parts, held_copyable, held-copied}
 use Rattle.refusal.specs.Told.{told_by}
 use Rattle.refusal.specs.declared.refusal.Refusal.{Refusal}
+use Rattle.lists.proofs.Sits.{slice_sits}
 use Rattle.lists.specs.Spans.{span_of}
 use Rattle.lists.specs.declared.slice.Span.{Span as Found}
 
@@ -87,20 +86,6 @@ module _ (m : Meaning) (o : Order) (a : List ℕ) (p : ℕ) (x : Result Found Re
   at : good (record { place = q; count = n }) ≡ slice_at m o a p
   at = sym (ap (told_by span_of) found_in) ∙ tells
 
-  slice_sits : (n ≡ 0 → ⊥) → Sits (row m n) a q
-  slice_sits ne = go (cases_eq c 0) where
-    c : ℕ
-    c = o.take_back (part p 4 a)
-
-    go : (c ≡ 0) ⊎ (c ≡ 0 → ⊥) → Sits (row m n) a q
-    go (inl z) =
-        let none : good (record { place = q; count = n }) ≡ good (record { place = p + 4; count = 0 }) = at ∙ unless-true (eqb c 0) _ _ (eq-eqb c 0 z) in
-        absurd (ne (ap (λ (x : Span). x.count) (good-same _ _ none)))
-    go (inr some) =
-        let x = both_parts (linked (row m c) o a (p + 4)) _ _ (sym (at ∙ unless-false (eqb c 0) _ _ (ne_eqb c 0 some))) in
-        let same = good-same _ _ x.1.1 in
-        subst (λ (y : Span). Sits (row m y.count) a y.place) same (linked_parts (row m c) o a (p + 4) x.0 x.1.0).1
-
   -- whose sheet is s: a mark and the count, and behind them what b, which is the row as the code has it, reads
   module _ (s : List ℕ) (h : (slice m o).reading a p ≡ good s) where
     abbrev front : List ℕ
@@ -111,7 +96,7 @@ module _ (m : Meaning) (o : Order) (a : List ℕ) (p : ℕ) (x : Result Found Re
 
     module _ (b : Meaning) (means : b ≡ row m n) where
       pub slice-copyable : (n ≡ 0 → ⊥) → (out : List ℕ) (to : ℕ) → length a ≤ limit → to + length s ≤ length out → Copyable b a q out (to + 6)
-      slice-copyable some out to capped room = held_copyable front (row m n) b means a q s reads out to (to + 6) capped (slice_sits some) room (ap (λ z. to + z) (sym (front_long n)))
+      slice-copyable some out to capped room = held_copyable front (row m n) b means a q s reads out to (to + 6) capped (slice_sits m o a p (record { place = q; count = n }) (sym at) some) room (ap (λ z. to + z) (sym (front_long n)))
 
       pub slice-copied :
           (first mid out new : List ℕ) (to r : ℕ) → to ≤ length first → mid ≡ put first to slice_mark → out ≡ put mid (to + 2) (low_first 4 n) →

@@ -1,18 +1,18 @@
 -- What is read of an archive that is sound. Assumes nothing.
-use Rattle.std.proofs.Common.{◌≡◌, ℕ, zero, suc, ◌+◌, ◌*◌, ◌%◌, ◌<◌, ◌≤◌, ◌&&◌, Bool, true, false, cond, eqb, ◌==◌, nat_le, ◌⊎◌, List, ◌++◌, length, IfOk, Result, Ok, Err, inl, inr, refl, sym, ◌∙◌, ap, subst, arith}
-use Rattle.std.proofs.lemmas.Bool.{leb-true, le-leb, eq-eqb, ne_eqb, cases_eq}
-use Rattle.format.specs.Places.{limit, stop, part}
+use Rattle.std.proofs.Common.{◌≡◌, ℕ, zero, suc, ◌+◌, ◌*◌, ◌%◌, ◌<◌, ◌≤◌, ◌&&◌, Bool, true, false, cond, ◌==◌, nat_le, List, ◌++◌, length, IfOk, Result, Ok, Err, refl, sym, ◌∙◌, ap, subst, arith}
+use Rattle.std.proofs.lemmas.Bool.{leb-true, le-leb}
+use Rattle.format.specs.Places.{limit, stop}
 use Rattle.format.specs.Orders.{little, low_first}
 use Rattle.format.specs.Answers.{Answer, good, bad, both}
 use Rattle.format.specs.Sheets.{pointer_mark, slice_mark}
-use Rattle.format.specs.Meaning.{Meaning, Sits}
+use Rattle.format.specs.Meaning.{Meaning}
 use Rattle.format.specs.Texts.{text_at}
 use Rattle.format.specs.Items.{row, read_items}
 use Rattle.format.specs.Links.{linked, Span, slice_at, held}
 use Rattle.format.specs.Archive.{rooted, sheet_at, is_valid_deep}
-use Rattle.format.proofs.AnswerLaws.{unless-true, unless-false, both-good, both_parts, unless_parts, inside-good, good-same}
+use Rattle.format.proofs.AnswerLaws.{unless-true, both-good, both_parts, unless_parts, inside-good, good-same}
 use Rattle.format.proofs.DistanceLaws.{sits-good}
-use Rattle.format.proofs.FarLaws.{linked_parts}
+use Rattle.lists.proofs.Sits.{slice_sits}
 use Rattle.kind.specs.Asked.{Seated}
 use Rattle.plate_archive.specs.declared.roots.Which.{Which}
 use Rattle.plate_archive.specs.declared.roots.Which.TheVariants.{Numbers, Casts, Parts}
@@ -54,20 +54,6 @@ module _ (m : Meaning) (head : Head m) (a : List ℕ) where
       let e : p + suc k * 8 ≡ p + m.size + k * 8 = omega arith in
       (z.0, ap (m.reading a) e ∙ z.1)
 
-  -- the items of a slice sit side by side
-  slice_sits : (p : ℕ) (s : Span) → slice_at m little a p ≡ good s → 0 < s.count → Sits (row m s.count) a s.place
-  slice_sits p s h some = go (cases_eq c 0) where
-    c : ℕ
-    c = little.take_back (part p 4 a)
-
-    go : (c ≡ 0) ⊎ (c ≡ 0 → ⊥) → Sits (row m s.count) a s.place
-    go (inl z) =
-        let none : good (record { place = p + 4; count = 0 }) ≡ good s = sym (unless-true (eqb c 0) _ _ (eq-eqb c 0 z)) ∙ h in
-        let e : ◌≡◌ {A = ℕ} 0 s.count = ap (λ (x : Span). x.count) (good-same _ _ none) in absurd (omega arith)
-    go (inr ne) =
-        let x = both_parts (linked (row m c) little a (p + 4)) _ s (sym (unless-false (eqb c 0) _ _ (ne_eqb c 0 ne)) ∙ h) in
-        subst (λ (y : Span). Sits (row m y.count) a y.place) (good-same _ _ x.1.1) (linked_parts (row m c) little a (p + 4) x.0 x.1.0).1
-
   -- a slice that is read
   slice_read : length a ≤ limit → (p : ℕ) (r : List ℕ) → (slice_of m).reading a p ≡ good r → (s : Span) × ((slice_at m little a p ≡ good s) × Each s)
   slice_read capped p r h =
@@ -79,7 +65,7 @@ module _ (m : Meaning) (head : Head m) (a : List ℕ) where
           x.1.0,
           record {
             seated = λ k l.
-                let t = slice_sits p s x.1.0 (omega arith) in
+                let t = slice_sits m little a p s x.1.0 (λ z. absurd (omega arith)) in
                 let size = head.size in
                 let within : s.place + stop (s.count * 8) ≤ length a = subst (λ z. s.place + stop (s.count * z) ≤ length a) size t.0 in
                 let aligned : s.place % 4 ≡ 0 = subst (λ z. s.place % z ≡ 0) head.align t.1 in
