@@ -1,5 +1,5 @@
 use Rattle.format.specs.Places.{put}
-use Rattle.std.proofs.Common.{◌+◌, refl, arith, sym, ap, ◌∙◌}
+use Rattle.std.proofs.Common.{◌+◌, arith, sym, ap, ◌∙◌}
 use Rattle.holding.proofs.Through.{leads, led_copied}
 use Rattle.links.proofs.link.LinkKind.copy.Goals as goal
 
