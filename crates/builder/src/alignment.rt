@@ -18,7 +18,7 @@ pub(crate) struct Alignment {
 }
 
 impl Alignment {
-    // One that is asked for; 0 is taken as 1.
+    // One that is asked for; 0 is taken as 1. As `Count` and the kinds, it is made by a function with a name, and by no `TryFrom`.
     pub(crate) fn asked(number: usize) -> Result<Alignment, Refusal>
         ensures { told_by (λ a. a.bytes) result ≡ unless (allowed number) (fault 3 0) (good (max 1 number)) }
     {

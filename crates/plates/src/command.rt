@@ -149,6 +149,7 @@ fn misused(name: &str) -> Trouble<'_> {
 }
 
 impl<'a> Command<'a> {
+    // Of the words of the command line. A `TryFrom` would say it under another name.
     pub(crate) fn of(words: &[&'a str]) -> Result<Command<'a>, Trouble<'a>> {
         match *words {
             [] => Ok(Command::Round),

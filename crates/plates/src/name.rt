@@ -11,7 +11,7 @@ pub enum Name<'a> {
 }
 
 impl<'a> Name<'a> {
-    // What a word of the command line stands for, where something is read.
+    // What a word of the command line stands for, where something is read: no `From`, since elsewhere it stands for something else.
     pub(crate) fn of(word: &'a str) -> Name<'a> {
         match word {
             "-" => Name::StandardInput,
