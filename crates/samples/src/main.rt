@@ -1,8 +1,7 @@
 // Runs samples: sequences that are text or not, words of sheets, values in archives, and a count of all short texts.
 #![tactic(auto)]
 
-ghost use Rattle.std.specs.Prelude.{◌≡◌, ◌≤◌};
-ghost use Rattle.format.specs.Samples.{Worked};
+ghost use Rattle.std.specs.Prelude.{◌≤◌};
 
 use archive::{is_valid, is_valid_deep};
 use endian::order::{BigEndian, Endian, LittleEndian};
@@ -16,14 +15,7 @@ use std::alloc::{AllocError, Global};
 use std::fmt;
 use texts::{ZeroStr, ZeroString};
 use utf8::is_text;
-
-// The worked samples hold of the definitions. How many facts they are.
-pub fn worked_samples() -> u8
-    ensures facts { Worked }
-    ensures count { result ≡ 25 }
-{
-    25
-}
+use worked::worked_samples;
 
 // The byte that two hexadecimal digits write; small letters are none.
 fn byte(word: &str) -> Option<u8> {
