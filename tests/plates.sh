@@ -177,6 +177,13 @@ check "what had the names still has them" $?
 said=$( (trap '' XFSZ && ulimit -f 0 && exec "$bin" build "$sample" kept) 2>&1 >/dev/null)
 [ $? -eq 1 ] && grep -qF "plates: cannot write kept.part: File too large" <<<"$said" && [ ! -e kept.part ] && cmp -s kept one.plates
 check "an archive that finds no room" $?
+# Where there is a C compiler: a disk that does not keep what was written, which a build asks for before the archive gets its name.
+if command -v cc >/dev/null; then
+    printf '#include <errno.h>\nint fsync(int file) { (void)file; errno = EIO; return -1; }\n' | cc -shared -fPIC -o lost.so -xc -
+    LD_PRELOAD=$room/lost.so "$bin" build "$sample" kept >out 2>err
+    [ $? -eq 1 ] && [ ! -s out ] && grep -qF "plates: cannot write kept.part: Input/output error" err && [ ! -e kept.part ] && cmp -s kept one.plates
+    check "an archive that the disk does not keep" $?
+fi
 cp one.plates busy.part
 refuses "another build is at work" "busy.part is there already" build "$sample" busy
 cmp -s busy.part one.plates && [ ! -e busy ]
