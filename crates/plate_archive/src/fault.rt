@@ -15,6 +15,7 @@ pub enum Fault {
         list: Which,
         refusal: Refusal,
     },
+    // No `PerList`: the words name each of the three.
     #[error("is refused: it has {numbers} plate numbers, {casts} casts and {parts} lists of parts, which should be as many")]
     Uneven {
         numbers: u32,

@@ -20,6 +20,7 @@ pub struct Refusal {
 const DEEPEST: u32 = 2_147_483_648;
 
 impl Cause {
+    // No `From`: the documents speak of a refusal's number.
     pub fn number(self) -> u8
         ensures { result ≡ cause_number self }
     {
