@@ -26,10 +26,9 @@ whole a b buf = record { answer = a; builder = b; buffer = buf }
 
 -- where builder and buffer that were lent end as `b` and `buf`
 module _
-  (u : Waiting) (r : Result Told Trouble) (v : Waiting) (b : Builder) (buf : List ℕ)
-  (builder_ends : u.builder.ghost_name ≡ v.builder.ghost_name → b ≡ model v.builder.now)
-  (buffer_ends : u.buffer.ghost_name ≡ v.buffer.ghost_name → buf ≡ v.buffer.now) where
-
+    (u : Waiting) (r : Result Told Trouble) (v : Waiting) (b : Builder) (buf : List ℕ)
+    (builder_ends : u.builder.ghost_name ≡ v.builder.ghost_name → b ≡ model v.builder.now)
+    (buffer_ends : u.buffer.ghost_name ≡ v.buffer.ghost_name → buf ≡ v.buffer.now) where
   same : (a x : Answer) (c d : Builder) (s t : List ℕ) → a ≡ x → c ≡ d → s ≡ t → whole a c s ≡ whole x d t
   same a x c d s t e f h = rw (e, f, h) refl
 

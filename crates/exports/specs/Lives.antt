@@ -10,7 +10,7 @@ use Rattle.exports.specs.Numbers.{telling, refused}
 use Rattle.exports.specs.Answering.{one, of_order}
 use Rattle.exports.specs.Calls.{Front, Event, known, named, Asked, event, finish, first_call}
 
--- the answer to a call, and what it leaves
+-- the five numbers that answer a call, and what it leaves
 pub record Left : Type 0 where
   pub answer : Answer
   pub builder : Builder
@@ -40,10 +40,11 @@ abbrev pub stop : ℕ → List ℕ → Option ℕ
 stop why [] = None
 stop why (b ∷ bs) = Some why
 
+-- a call's answer, and how a life goes on behind it
 abbrev pub then_on : Answer → Course → Course
 then_on a c = record { stopped = c.stopped; made = 1 + c.made; behind = c.behind; buffer = c.buffer; answers = a ∷ c.answers }
 
--- what comes of a call, with the answers behind its own, and how a life goes on behind it
+-- what comes of a call: given the answers behind its own, and how a life goes on behind it
 module _ (rest : List Answer) (on : Builder → List ℕ → List ℕ → Course) where
   abbrev pub by : Builder → List ℕ → List ℕ → Asked → Course
   by b buf calls (event e) = let x = made b buf e in then_on x.answer (on x.builder x.buffer calls)
@@ -51,12 +52,12 @@ module _ (rest : List Answer) (on : Builder → List ℕ → List ℕ → Course
       let f = builders.finish b in
       record { stopped = None; made = 1; behind = calls; buffer = buf; answers = telling f.length f.alignment ∷ rest }
 
-  -- a call that can't be read stops the life
+  -- a call that can't be read stops the life, and its answer stays
   abbrev pub next : Answer → Builder → List ℕ → List ℕ → Option (Front Asked) → Course
   next a b buf calls None = record { stopped = stop 103 calls; made = 0; behind = calls; buffer = buf; answers = a ∷ rest }
   next a b buf calls (Some x) = by b buf x.behind x.what
 
--- a call without room for its answer stops the life
+-- how a life goes on with these answers to write, on a builder and its buffer, by its calls; a call without an answer stops it
 abbrev pub course : List Answer → Builder → List ℕ → List ℕ → Course
 course [] b buf calls = record { stopped = stop 104 calls; made = 0; behind = calls; buffer = buf; answers = [] }
 course (a ∷ rest) b buf calls = next rest (course rest) a b buf calls (first_call calls)

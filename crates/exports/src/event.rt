@@ -30,11 +30,7 @@ pub enum KindEvent<'a> {
 }
 
 impl Event<'_> {
-    pub(crate) fn make(
-        self,
-        builder: &mut ZeroBuilder,
-        buffer: &mut [u8],
-    ) -> Result<Told, Trouble>
+    pub(crate) fn make(self, builder: &mut ZeroBuilder, buffer: &mut [u8]) -> Result<Told, Trouble>
         ensures { left_by result builder.new buffer.new ≡ made_by (model builder.old) buffer.old (event_of self.entry) }
     {
         let told = match self {

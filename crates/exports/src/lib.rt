@@ -72,11 +72,7 @@ pub extern "C" fn gachullpi_copy_out(
 }
 
 #[unsafe(no_mangle)]
-pub extern "C" fn gachullpi_life(
-    calls: &[u8],
-    buffer: &mut [u8],
-    answers: &mut [Answer],
-) -> Answer
+pub extern "C" fn gachullpi_life(calls: &[u8], buffer: &mut [u8], answers: &mut [Answer]) -> Answer
     ensures { record { answer = result; buffer = buffer.new; answers = answers.new } ≡ life calls.now buffer.old answers.old }
 {
     life::run(calls, buffer, answers)

@@ -22,10 +22,10 @@ returns-in-Finish c =
 pub loop-answer-preserved : goal.loop-answer-preserved
 loop-answer-preserved c = record {
   on =
-    goes_on c.loop-answer.invariant (omega arith) _ c.in-Some.behind.now
-    (sym c.read.ensures ∙ ap with_rest c.in-Some.is ∙ ap (λ s. Some (record { what = asked_of s; behind = c.in-Some.behind.now })) c.in-Event.is)
-    (record { answer = c.into.result; builder = model c.make.new.builder; buffer = c.make.new.buffer })
-    (ap (λ a. record { answer = a; builder = model c.make.new.builder; buffer = c.make.new.buffer }) c.into.ensures ∙ c.make.ensures);
+      goes_on c.loop-answer.invariant (omega arith) _ c.in-Some.behind.now
+      (sym c.read.ensures ∙ ap with_rest c.in-Some.is ∙ ap (λ s. Some (record { what = asked_of s; behind = c.in-Some.behind.now })) c.in-Event.is)
+      (record { answer = c.into.result; builder = model c.make.new.builder; buffer = c.make.new.buffer })
+      (ap (λ a. record { answer = a; builder = model c.make.new.builder; buffer = c.make.new.buffer }) c.into.ensures ∙ c.make.ensures);
   counted = search rules;
   runs = c.loop-answer.invariant.runs;
 }
