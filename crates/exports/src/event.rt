@@ -1,5 +1,10 @@
 // The calls of a life, made on a builder.
-ghost use Rattle.std.specs.Prelude.{⊤};
+ghost use Rattle.std.specs.Prelude.{◌≡◌};
+ghost use Rattle.format.specs.Builder.{step};
+ghost use Rattle.builder.specs.Model.{model, left};
+ghost use Rattle.exports.specs.Calls.{named};
+ghost use Rattle.exports.specs.Lives.{made as made_by};
+ghost use Rattle.exports.specs.Steps.{event_of, of_kind, left_by, Waits};
 
 use crate::answer::{Told, Trouble};
 use crate::calls::{Name, made};
@@ -25,11 +30,9 @@ pub enum KindEvent<'a> {
 }
 
 impl Event<'_> {
-    pub(crate) fn make(
-        self,
-        builder: &mut ZeroBuilder,
-        buffer: &mut [u8],
-    ) -> Result<Told, Trouble> {
+    pub(crate) fn make(self, builder: &mut ZeroBuilder, buffer: &mut [u8]) -> Result<Told, Trouble>
+        ensures { left_by result builder.new buffer.new ≡ made_by (model builder.old) buffer.old (event_of self.entry) }
+    {
         let told = match self {
             Event::Align(alignment) => builder.align(buffer, alignment)?,
             Event::ReserveBytes { count, alignment } => {
@@ -39,26 +42,40 @@ impl Event<'_> {
             Event::PushBytes { bytes, alignment } => {
                 builder.push_bytes(buffer, bytes, alignment)?
             }
-            Event::OfKind(name, event) => {
-                let mut waiting = Waiting {
-                    event,
-                    builder,
-                    buffer,
-                };
-                return made(name, &mut waiting);
-            }
+            Event::OfKind(name, event) => return event.make_named(name, builder, buffer),
         };
         Ok(told.into())
     }
 }
 
 impl KindEvent<'_> {
+    // With the kind that a name means.
+    fn make_named(
+        self,
+        name: Name,
+        builder: &mut ZeroBuilder,
+        buffer: &mut [u8],
+    ) -> Result<Told, Trouble>
+        ensures { left_by result builder.new buffer.new ≡ made_by (model builder.old) buffer.old (named name.entry.kind.now name.entry.order (of_kind self.entry)) }
+    {
+        made(
+            name,
+            &mut Waiting {
+                event: &self,
+                builder,
+                buffer,
+            },
+        )
+    }
+
     fn make<K: Kind>(
         self,
         builder: &mut ZeroBuilder,
         buffer: &mut [u8],
         kind: &K,
-    ) -> Result<usize, Refusal> {
+    ) -> Result<usize, Refusal>
+        ensures { left result builder.new buffer.new ≡ step (of_kind self.entry (K.Kind.meaning kind.now)) (model builder.old) buffer.old }
+    {
         match self {
             KindEvent::Reserve => builder.reserve(buffer, kind),
             KindEvent::Push(bytes) => builder.push(buffer, kind, bytes),
@@ -67,10 +84,11 @@ impl KindEvent<'_> {
     }
 }
 
-// An event that waits for its kind, with what it is made on.
+// An event that waits for its kind, with what it is made on. By reference: of a struct that holds an enum which borrows, a proof would
+// not know what builder and buffer it leaves.
 #[derive(Drop)]
 struct Waiting<'a, 'b, 'c> {
-    event: KindEvent<'a>,
+    event: &'a KindEvent<'a>,
     builder: &'b mut ZeroBuilder,
     buffer: &'c mut [u8],
 }
@@ -78,7 +96,7 @@ struct Waiting<'a, 'b, 'c> {
 impl Use for Waiting<'_, '_, '_> {
     type Answer = Result<Told, Trouble>;
 
-    ghost tells = { λ _ _ _ _. ⊤ };
+    ghost tells = { Waits };
 
     fn with<K: Kind>(&mut self, kind: &K) -> Result<Told, Trouble> {
         Ok(self.event.make(self.builder, self.buffer, kind)?.into())

@@ -5,6 +5,7 @@
 ghost use Rattle.std.specs.Prelude.{◌≡◌};
 ghost use Rattle.utf8.specs.Recognised.{Recognised};
 ghost use Rattle.exports.specs.Answering.{scanned, checked, checked_deeply, stepped, copied, answers_by, copies_by};
+ghost use Rattle.exports.specs.Lives.{life};
 
 mod answer;
 mod calls;
@@ -71,10 +72,8 @@ pub extern "C" fn gachullpi_copy_out(
 }
 
 #[unsafe(no_mangle)]
-pub extern "C" fn gachullpi_life(
-    calls: &[u8],
-    buffer: &mut [u8],
-    answers: &mut [Answer],
-) -> Answer {
+pub extern "C" fn gachullpi_life(calls: &[u8], buffer: &mut [u8], answers: &mut [Answer]) -> Answer
+    ensures { record { answer = result; buffer = buffer.new; answers = answers.new } ≡ life calls.now buffer.old answers.old }
+{
     life::run(calls, buffer, answers)
 }

@@ -1,9 +1,18 @@
 // The whole life of a builder, told by its calls: C can't keep a builder, since only `new` makes one.
+ghost use Rattle.std.specs.Prelude.{◌≡◌, ◌-◌, length};
+ghost use Rattle.std.specs.Option.{option_map};
+ghost use Rattle.builder.specs.Model.{model};
+ghost use Rattle.exports.specs.Numbers.{why_not};
+ghost use Rattle.exports.specs.Lives.{course as goes, told as tells, life};
+ghost use Rattle.exports.specs.Steps.{course_of};
+
 use crate::answer::{Answer, NotMade, Told};
 use crate::encoded::Step;
 use builder::{Finished, ZeroBuilder};
 
 impl From<Finished> for Told {
+    ghost from_gives = { λ f t. t ≡ record { value = f.length; count = f.alignment } };
+
     fn from(finished: Finished) -> Told {
         Told {
             value: finished.length,
@@ -21,7 +30,9 @@ struct Course<'a> {
 }
 
 impl Course<'_> {
-    fn told(self, calls: &[u8]) -> Answer {
+    fn told(self, calls: &[u8]) -> Answer
+        ensures { result ≡ tells (option_map why_not self.entry.stopped) self.entry.made (length calls.now - length self.entry.rest.now) }
+    {
         let read = calls.len().saturating_sub(self.rest.len()) as u64;
         let (refusal, place) = match self.stopped {
             Some(why) => (why as u64, read),
@@ -42,7 +53,9 @@ fn live<'a>(
     calls: &'a [u8],
     buffer: &mut [u8],
     answers: &mut [Answer],
-) -> Course<'a> {
+) -> Course<'a>
+    ensures { course_of result buffer.new answers.new ≡ goes answers.old (model builder) buffer.old calls.now }
+{
     let mut course = Course {
         made: 0,
         rest: calls,
@@ -73,7 +86,9 @@ fn live<'a>(
     course
 }
 
-pub(crate) fn run(calls: &[u8], buffer: &mut [u8], answers: &mut [Answer]) -> Answer {
+pub(crate) fn run(calls: &[u8], buffer: &mut [u8], answers: &mut [Answer]) -> Answer
+    ensures { record { answer = result; buffer = buffer.new; answers = answers.new } ≡ life calls.now buffer.old answers.old }
+{
     match ZeroBuilder::new(buffer) {
         Ok(builder) => live(builder, calls, buffer, answers).told(calls),
         Err(refusal) => Err(refusal.into()).into(),
