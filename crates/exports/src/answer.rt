@@ -18,7 +18,7 @@ pub struct Answer {
 }
 
 // Why a call is not made. The numbers are those of the header.
-#[derive(Clone, Copy, PartialEq, Eq, Debug)]
+#[derive(Clone, Copy)]
 pub enum NotMade {
     NoKind = 100,
     NoOrder = 101,
@@ -28,7 +28,7 @@ pub enum NotMade {
 }
 
 // What an accepted call tells.
-#[derive(Clone, Copy, PartialEq, Eq, Debug)]
+#[derive(Clone, Copy)]
 pub struct Told {
     pub value: usize,
     pub count: usize,
@@ -42,7 +42,7 @@ impl From<usize> for Told {
     }
 }
 
-#[derive(Clone, Copy, PartialEq, Eq, Debug)]
+#[derive(Clone, Copy)]
 pub enum Trouble {
     Refused(Refusal),
     NotMade(NotMade),
