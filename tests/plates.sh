@@ -143,6 +143,31 @@ refuses "lists that are not as long" "damaged is refused: it has 1 plate numbers
 (cat one.plates && printf 'anything') >followed
 accepts "bytes behind an archive do not matter" "followed is sound" check followed
 
+# Sixteen plates whose numbers and casts are one text: each sheet is longer than the archive.
+# le N: a number, four bytes little end first
+le() {
+    printf "\\x$(printf %02x $(($1 & 255)))\\x$(printf %02x $(($1 >> 8 & 255)))\\0\\0"
+}
+text=$(printf 'x%.0s' $(seq 255))
+{
+    le 12 && le 16 && le 20
+    le 16 && le 20 && le 16 && le 12 && le 16 && le 132
+    for i in $(seq 0 15); do le 255 && le $((292 - 40 - 8 * i)); done
+    for i in $(seq 0 31); do le 0; done
+    printf %s "$text"
+} >shared
+{
+    for list in numbers casts; do
+        printf 'SL' && le 16
+        for i in $(seq 0 15); do printf 'TX' && le 255 && printf %s "$text"; done
+    done
+    printf 'SL' && le 16
+    for i in $(seq 0 15); do printf 'SL' && le 0; done
+} >sheets
+accepts "an archive of plates that share a text" "shared is sound: 16 plates in 547 bytes" check shared
+"$bin" copy shared >out 2>err && cmp -s out sheets && [ ! -s err ]
+check "its sheets, which are longer than it" $?
+
 # Lists that are refused
 refuses "a list that is not there" "cannot open nowhere.txt: No such file or directory" build nowhere.txt bad.plates
 refuses "a list that is a folder" "$room is a directory" build "$room" bad.plates
