@@ -90,7 +90,8 @@ struct gachullpi_answer gachullpi_copy_out(const uint8_t *kind, size_t kind_leng
 //
 // The life itself answers: value, how many calls were made, and count, how many bytes of `calls` they are. It is refused with 1 where
 // the buffer is longer than the limit; then nothing is made. It stops, with GACHULLPI_NO_CALL or GACHULLPI_NO_ANSWER and the place in
-// `calls`, at a call that can't be read or whose answer has no room; value and count then tell what was made before, unlike elsewhere.
+// `calls`, at a call that can't be read or whose answer has no room (no room, where both are so); value and count then tell what was
+// made before, unlike elsewhere.
 struct gachullpi_answer gachullpi_life(const uint8_t *calls, size_t calls_length, uint8_t *buffer, size_t buffer_length,
                                        struct gachullpi_answer *answers, size_t answers_count);
 
