@@ -28,7 +28,8 @@ pub enum Call {
 }
 
 impl Call {
-    // One step is not for each kind.
+    // One step is not for each kind. Not put in line: the program would take twice as long to compile.
+    #[inline(never)]
     fn make<K: Kind>(&self, desk: &mut Desk, buffer: &mut [u8], kind: &K) -> Result<Said, Trouble> {
         let number = match self {
             Call::Scan(sheet) => kind.scan(sheet.as_slice(), 0)?,
