@@ -1,3 +1,4 @@
 pub mod TextLaws
 pub mod CopyLaws
 pub mod SoundLaws
+pub mod AssemblyLaws

@@ -1,0 +1,97 @@
+-- What calls one behind another leave, by what each of them leaves. Assumes nothing.
+use Rattle.std.proofs.Common.{◌≡◌, ℕ, ◌-◌, ◌^◌, ◌<◌, ◌≤◌, ◌==◌, nat_le, List, length, refl, sym, ap, ◌∙◌, arith}
+use Rattle.format.specs.Places.{limit, up}
+use Rattle.format.specs.Answers.{Answer, Fault, good, bad, fault, unless}
+use Rattle.format.specs.Orders.{little}
+use Rattle.format.specs.Sheets.{ended}
+use Rattle.format.specs.Meaning.{Meaning}
+use Rattle.format.specs.Builder as builders
+use Rattle.format.specs.Builder.{Builder, Call, After, Change, write, change, done, step}
+use Rattle.format.proofs.AnswerLaws.{unless_parts, both_parts, good-same}
+use Rattle.plate_archive.specs.declared.roots.Which.{Which}
+use Rattle.plate_archive.specs.declared.roots.Which.TheVariants.{Numbers, Casts, Parts}
+use Rattle.plate_archive.specs.Archives.{list, root_place, Three}
+use Rattle.plate_archive.specs.Assembly.{Run, call, tell, refuse, by, then, build, build_lists}
+
+-- behind a first that answers a, or is refused
+module _ {A B : Type 0} (first : Run A) (next : A → Run B) (b : Builder) (buf : List ℕ) (c : Builder) (s : List ℕ) where
+  pub goes_on : (a : A) → tell a c s ≡ first b buf → next a c s ≡ then first next b buf
+  goes_on a h = ap (λ x. by next x.answer x.builder x.buffer) h
+
+  pub stops : (e : Fault) → refuse e c s ≡ first b buf → refuse e c s ≡ then first next b buf
+  stops e h = ap (λ x. by next x.answer x.builder x.buffer) h
+
+-- one call
+module _ (e : Call) (b : Builder) (buf : List ℕ) (c : Builder) (s : List ℕ) where
+  pub accepted : (n : ℕ) → record { answer = good n; builder = c; buffer = s } ≡ step e b buf → tell n c s ≡ call e b buf
+  accepted n h = ap (λ (x : After). record { answer = x.answer; builder = x.builder; buffer = x.buffer }) h
+
+  pub refused : (f : Fault) → record { answer = bad f; builder = c; buffer = s } ≡ step e b buf → refuse f c s ≡ call e b buf
+  refused f h = ap (λ (x : After). record { answer = x.answer; builder = x.builder; buffer = x.buffer }) h
+
+-- an accepted build is at the next place of its kind
+pub built_place : (m : Meaning) (v : List ℕ) (b : Builder) (buf : List ℕ) (p : ℕ) (c : Builder) (s : List ℕ) → record { answer = good p; builder = c; buffer = s } ≡ step (builders.build m v) b buf → p ≡ up b.used m.align
+built_place m v b buf p c s h = go (unless (length buf == b.room) (fault 2 0) (change b (builders.build m v))) refl where
+  go : (x : Answer Change) → unless (length buf == b.room) (fault 2 0) (change b (builders.build m v)) ≡ x → p ≡ up b.used m.align
+  go (bad e) k =
+      let y : good p ≡ bad e = ap (λ (z : After). z.answer) (h ∙ ap (done b buf) k) in
+      let z : ◌≡◌ {A = ℕ} 0 1 = cc in absurd (omega arith)
+  go (good x) k =
+      let own = unless_parts (length buf == b.room) _ _ x k in
+      let small = unless_parts (nat_le (length v) limit) _ _ x own.1 in
+      let scanned = both_parts (m.scan v) _ x small.1 in
+      let whole = both_parts (ended v scanned.0) _ x scanned.1.1 in
+      let fitting = unless_parts _ _ _ x whole.1.1 in
+      good-same p x.answer (ap (λ (z : After). z.answer) (h ∙ ap (done b buf) k)) ∙ ap (λ (z : Change). z.answer) (sym (good-same _ x fitting.1))
+
+-- the list of a sheet, by the kind that it is built as
+module _ (w : Which) (v : List ℕ) (m : Meaning) (is : m ≡ list w) (b : Builder) (buf : List ℕ) (c : Builder) (s : List ℕ) where
+  listed : (x : After) → x ≡ step (builders.build m v) b buf → x ≡ step (builders.build (list w) v) b buf
+  listed x h = h ∙ ap (λ m. step (builders.build m v) b buf) is
+
+  pub list_refused : (e : Fault) → record { answer = bad e; builder = c; buffer = s } ≡ step (builders.build m v) b buf → refuse e c s ≡ build w v b buf
+  list_refused e h = stops (call (builders.build (list w) v)) _ b buf c s e (refused (builders.build (list w) v) b buf c s e (listed _ h))
+
+  -- built at p, and then bytes are written at q
+  module _ (p : ℕ) (h : record { answer = good p; builder = c; buffer = s } ≡ step (builders.build m v) b buf) (q : ℕ) (at : q ≡ root_place w) where
+    -- its distance has four bytes
+    pub near : b.used ≤ limit → p - q < 2 ^ 32
+    near i = let e : p ≡ up b.used 4 = built_place (list w) v b buf p c s (listed _ h) in omega arith
+
+    module _ (bytes : List ℕ) (n : ℕ) (distance : n ≡ p - q) (are : bytes ≡ little.lay 4 n) (d : Builder) (t : List ℕ) where
+      written : (x : After) → x ≡ step (write q bytes) c s → x ≡ step (write (root_place w) (little.lay 4 (p - root_place w))) c s
+      written x k = k ∙ ap (λ z. step (write q z) c s) (are ∙ ap (little.lay 4) distance) ∙ ap (λ z. step (write z (little.lay 4 (p - z))) c s) at
+
+      behind : then (call (write (root_place w) (little.lay 4 (p - root_place w)))) (λ _. tell p) c s ≡ build w v b buf
+      behind = goes_on (call (builders.build (list w) v)) (λ p. then (call (write (root_place w) (little.lay 4 (p - root_place w)))) (λ _. tell p)) b buf c s p (accepted (builders.build (list w) v) b buf c s p (listed _ h))
+
+      pub pointer_refused : (e : Fault) → record { answer = bad e; builder = d; buffer = t } ≡ step (write q bytes) c s → refuse e d t ≡ build w v b buf
+      pointer_refused e k = stops (call (write (root_place w) (little.lay 4 (p - root_place w)))) (λ _. tell p) c s d t e (refused (write (root_place w) (little.lay 4 (p - root_place w))) c s d t e (written _ k)) ∙ behind
+
+      pub list_built : (o : ℕ) → record { answer = good o; builder = d; buffer = t } ≡ step (write q bytes) c s → tell p d t ≡ build w v b buf
+      list_built o k = goes_on (call (write (root_place w) (little.lay 4 (p - root_place w)))) (λ _. tell p) c s d t o (accepted (write (root_place w) (little.lay 4 (p - root_place w))) c s d t o (written _ k)) ∙ behind
+
+-- the three lists
+module _ (x : Three (List ℕ)) where
+  abbrev parts_behind : ℕ → ℕ → Run (Three ℕ)
+  parts_behind n c = then (build Parts x.parts) (λ p. tell (record { numbers = n; casts = c; parts = p }))
+
+  abbrev casts_behind : ℕ → Run (Three ℕ)
+  casts_behind n = then (build Casts x.casts) (parts_behind n)
+
+  module _ (b : Builder) (buf : List ℕ) (n : ℕ) (c : Builder) (s : List ℕ) (h : tell n c s ≡ build Numbers x.numbers b buf) where
+    behind_numbers : casts_behind n c s ≡ build_lists x b buf
+    behind_numbers = goes_on (build Numbers x.numbers) casts_behind b buf c s n h
+
+    pub casts_refused : (d : Builder) (t : List ℕ) (e : Fault) → refuse e d t ≡ build Casts x.casts c s → refuse e d t ≡ build_lists x b buf
+    casts_refused d t e k = stops (build Casts x.casts) (parts_behind n) c s d t e k ∙ behind_numbers
+
+    module _ (m : ℕ) (d : Builder) (t : List ℕ) (k : tell m d t ≡ build Casts x.casts c s) where
+      behind_casts : parts_behind n m d t ≡ build_lists x b buf
+      behind_casts = goes_on (build Casts x.casts) (parts_behind n) c s d t m k ∙ behind_numbers
+
+      pub parts_refused : (f : Builder) (u : List ℕ) (e : Fault) → refuse e f u ≡ build Parts x.parts d t → refuse e f u ≡ build_lists x b buf
+      parts_refused f u e l = stops (build Parts x.parts) (λ p. tell (record { numbers = n; casts = m; parts = p })) d t f u e l ∙ behind_casts
+
+      pub lists_built : (f : Builder) (u : List ℕ) (p : ℕ) → tell p f u ≡ build Parts x.parts d t → tell (record { numbers = n; casts = m; parts = p }) f u ≡ build_lists x b buf
+      lists_built f u p l = goes_on (build Parts x.parts) (λ p. tell (record { numbers = n; casts = m; parts = p })) d t f u p l ∙ behind_casts
