@@ -1,5 +1,5 @@
 // An archive of three sheets: three pointers at its front, and behind them the lists that they lead to.
-ghost use Rattle.std.specs.Prelude.{◌≡◌};
+ghost use Rattle.std.specs.Prelude.{◌≡◌, ◌-◌};
 ghost use Rattle.refusal.specs.Told.{told_by};
 ghost use Rattle.builder.specs.Model.{model};
 ghost use Rattle.plate_archive.specs.declared.assembly.AssembleError.TheVariants.{Refused as Refusing, Memory as NoMemory};
@@ -67,6 +67,13 @@ fn reserve_pointers(builder: &mut ZeroBuilder, buffer: &mut [u8]) -> Result<usiz
     builder.reserve(buffer, &pointer_to::<Parts>())
 }
 
+// From a pointer to its list. No `-`: no contract of the builder says that what is built stands behind.
+fn apart(pointer: usize, place: usize) -> usize
+    ensures { result ≡ place - pointer }
+{
+    place.saturating_sub(pointer)
+}
+
 // Builds a list behind what stands, and lets its pointer lead there.
 fn build<R: Root>(
     builder: &mut ZeroBuilder,
@@ -77,7 +84,7 @@ fn build<R: Root>(
 {
     let place = builder.build(buffer, &list_of::<R>(), sheet)?;
     let pointer = R::which().place();
-    let distance = place.saturating_sub(pointer) as u32;
+    let distance = apart(pointer, place) as u32;
     builder.write(buffer, pointer, &LittleEndian::from_native_u32(distance))?;
     Ok(place)
 }

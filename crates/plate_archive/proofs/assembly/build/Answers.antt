@@ -23,7 +23,7 @@ overflow_cast-distance g c =
     let n =
     near g.R.Root.which c.args.sheet.now (slice (g.R.Item.Kind.meaning c.list_of.result.item) little) c.list_of.ensures (model c.args.builder.now) c.args.buffer.now
     (model c.build.new.self) c.build.new.buffer c.in_ok-place.place c.in_ok-place.ensures c.place-pointer.result (c.place-pointer.ensures ∙ ap root_place c.which.ensures) (omega arith) in
-    omega (arith, c.saturating_sub-distance.ensures)
+    omega (arith, c.apart-distance.ensures)
 
 pub returns-in_err-write : goal.returns-in_err-write
 returns-in_err-write g c =
@@ -31,10 +31,10 @@ returns-in_err-write g c =
     rw (p.1, p.2)
     (pointer_refused g.R.Root.which c.args.sheet.now (slice (g.R.Item.Kind.meaning c.list_of.result.item) little) c.list_of.ensures (model c.args.builder.now) c.args.buffer.now
     (model c.build.new.self) c.build.new.buffer c.in_ok-place.place c.in_ok-place.ensures c.place-pointer.result (c.place-pointer.ensures ∙ ap root_place c.which.ensures)
-    c.from_native_u32.result c.saturating_sub-distance.result c.saturating_sub-distance.ensures c.from_native_u32.ensures (model c.write.new.self) c.write.new.buffer (fault_of c.in_err-write.field-0.0) c.in_err-write.ensures)
+    c.from_native_u32.result c.apart-distance.result c.apart-distance.ensures c.from_native_u32.ensures (model c.write.new.self) c.write.new.buffer (fault_of c.in_err-write.field-0.0) c.in_err-write.ensures)
 
 pub returns : goal.returns
 returns g c =
     list_built g.R.Root.which c.args.sheet.now (slice (g.R.Item.Kind.meaning c.list_of.result.item) little) c.list_of.ensures (model c.args.builder.now) c.args.buffer.now
     (model c.build.new.self) c.build.new.buffer c.in_ok-place.place c.in_ok-place.ensures c.place-pointer.result (c.place-pointer.ensures ∙ ap root_place c.which.ensures)
-    c.from_native_u32.result c.saturating_sub-distance.result c.saturating_sub-distance.ensures c.from_native_u32.ensures (model c.write.new.self) c.write.new.buffer c.in_ok-write.field-0 c.in_ok-write.ensures
+    c.from_native_u32.result c.apart-distance.result c.apart-distance.ensures c.from_native_u32.ensures (model c.write.new.self) c.write.new.buffer c.in_ok-write.field-0 c.in_ok-write.ensures
