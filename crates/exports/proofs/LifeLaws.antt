@@ -1,6 +1,6 @@
 -- A life, call by call: what is left of it answers for the whole. Assumes nothing.
-use Rattle.std.proofs.Common.{◌≡◌, ℕ, ◌+◌, ◌<◌, ◌≤◌, List, [], ◌∷◌, ◌++◌, length, take, drop, get_or, set, Option, Some, None, refl, sym, ap, ◌∙◌, append_assoc, append-nil, add-zero, zero-add, arith}
-use Rattle.std.proofs.lemmas.List.{take_all, take-set, take-append-drop, take_more_set, drop-set, drop-set-lt, at_drop_more, at_drop_all, drop_more, set-get_or, nil_from_length}
+use Rattle.std.proofs.Common.{◌≡◌, ℕ, ◌+◌, ◌<◌, List, [], ◌∷◌, ◌++◌, length, take, drop, get_or, set, Option, Some, None, refl, sym, ap, ◌∙◌, append_assoc, arith}
+use Rattle.std.proofs.lemmas.List.{take-set, take-append-drop, take_more_set, drop-set, drop-set-lt, at_drop_more}
 use Rattle.std.specs.Option.{option_map}
 use Rattle.format.specs.Builder as builders
 use Rattle.format.specs.Builder.{Builder}
@@ -8,7 +8,7 @@ use Rattle.exports.specs.declared.answer.Answer.{Answer}
 use Rattle.exports.specs.declared.answer.NotMade.{NotMade}
 use Rattle.exports.specs.Numbers.{telling, why_not}
 use Rattle.exports.specs.Calls.{Front, Event, Asked, event, finish, first_call}
-use Rattle.exports.specs.Lives.{Left, Course, made, stop, then_on, course, next}
+use Rattle.exports.specs.Lives.{Left, Course, made, then_on, course, next}
 
 abbrev pub here : Option ℕ → ℕ → List ℕ → List ℕ → List Answer → Course
 here why n calls buf xs = record { stopped = why; made = n; behind = calls; buffer = buf; answers = xs }
@@ -30,23 +30,8 @@ pub record Lives (w : Course) (xs : List Answer) (i : ℕ) (b : Builder) (buf ca
   pub counted : n ≡ i
   pub runs : why ≡ None
 
-pub begins : (xs : List Answer) (b : Builder) (buf calls : List ℕ) → Lives (course xs b buf calls) xs 0 b buf calls 0 None
-begins xs b buf calls =
-    let c = course xs b buf calls in
-    record { on = alike c.stopped c.behind c.buffer _ _ c.answers c.answers (sym (zero-add c.made)) refl; counted = refl; runs = refl }
-
 after_one : (i : ℕ) (xs : List Answer) (a : Answer) (c : Course) → after i xs (then_on a c) ≡ after (i + 1) (xs ++ (a ∷ [])) c
 after_one i xs a c = alike c.stopped c.behind c.buffer _ _ _ _ (omega arith) (sym (append_assoc xs (a ∷ []) c.answers))
-
-none_left : (calls : List ℕ) → length calls ≡ 0 → first_call calls ≡ None
-none_left calls h = ap first_call (nil_from_length calls h)
-
-stop_none : (why : ℕ) (calls : List ℕ) → length calls ≡ 0 → stop why calls ≡ None
-stop_none why calls h = ap (stop why) (nil_from_length calls h)
-
-stop_some : (why : ℕ) (calls : List ℕ) → 0 < length calls → stop why calls ≡ Some why
-stop_some why [] h = absurd (omega arith)
-stop_some why (c ∷ cs) h = refl
 
 module _ {w : Course} {xs : List Answer} {i : ℕ} {b : Builder} {buf calls : List ℕ} {n : ℕ} {why : Option NotMade} (l : Lives w xs i b buf calls n why) where
   -- with room for one more answer
@@ -77,31 +62,3 @@ module _ {w : Course} {xs : List Answer} {i : ℕ} {b : Builder} {buf calls : Li
         ∙ ap (here None (i + 1) r buf) (take-append-drop i (set xs i a))
         ∙ ap (λ k. here None k r buf (set xs i a)) (sym more)
         ∙ ap (λ o. here (option_map why_not o) m r buf (set xs i a)) (sym l.runs))
-
-    -- no answer is written where no call is read
-    unread : (o : Option ℕ) → stop 103 calls ≡ o → first_call calls ≡ None → (d : Answer) → here o n calls buf (set xs i (get_or xs i d)) ≡ w
-    unread o e f d =
-        sym (read _ f ∙ alike _ _ _ _ _ _ _ (add-zero i) (ap (λ ys. take i xs ++ ys) (sym (drop_more xs i (telling 0 0) room)) ∙ take-append-drop i xs)
-        ∙ ap (λ p. here p i calls buf xs) e
-        ∙ alike _ _ _ _ _ _ _ (sym l.counted) (sym (set-get_or xs i d)))
-
-    pub unreadable : 0 < length calls → first_call calls ≡ None → (d : Answer) → here (Some 103) n calls buf (set xs i (get_or xs i d)) ≡ w
-    unreadable h = unread _ (stop_some 103 calls h)
-
-    pub over : length calls ≡ 0 → (d : Answer) → here (option_map why_not why) n calls buf (set xs i (get_or xs i d)) ≡ w
-    over h = unread _ (stop_none 103 calls h ∙ ap (option_map why_not) (sym l.runs)) (none_left calls h)
-
-  -- with no room
-  module _ (full : length xs ≤ i) where
-    full_at : (o : Option ℕ) → stop 104 calls ≡ o → here o n calls buf xs ≡ w
-    full_at o e =
-        sym (l.on ∙ ap (after i (take i xs)) (at_drop_all (λ ys. course ys b buf calls) xs i full)
-        ∙ alike _ _ _ _ _ _ _ (add-zero i) (append-nil _ ∙ take_all i xs full)
-        ∙ ap (λ p. here p i calls buf xs) e
-        ∙ ap (λ k. here o k calls buf xs) (sym l.counted))
-
-    pub no_room : 0 < length calls → here (Some 104) n calls buf xs ≡ w
-    no_room h = full_at _ (stop_some 104 calls h)
-
-    pub all_told : length calls ≡ 0 → here (option_map why_not why) n calls buf xs ≡ w
-    all_told h = full_at _ (stop_none 104 calls h ∙ ap (option_map why_not) (sym l.runs))

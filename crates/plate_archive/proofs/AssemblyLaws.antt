@@ -1,13 +1,10 @@
 -- What calls one behind another leave, by what each of them leaves. Assumes nothing.
-use Rattle.std.proofs.Common.{◌≡◌, ℕ, ◌-◌, ◌^◌, ◌<◌, ◌≤◌, ◌==◌, nat_le, List, length, refl, sym, ap, ◌∙◌, arith}
-use Rattle.format.specs.Places.{limit, up}
-use Rattle.format.specs.Answers.{Answer, Fault, good, bad, fault, unless}
+use Rattle.std.proofs.Common.{◌≡◌, ℕ, ◌-◌, List, ap, ◌∙◌}
+use Rattle.format.specs.Answers.{Fault, good, bad}
 use Rattle.format.specs.Orders.{little}
-use Rattle.format.specs.Sheets.{ended}
 use Rattle.format.specs.Meaning.{Meaning}
 use Rattle.format.specs.Builder as builders
 use Rattle.format.specs.Builder.{Builder, Call, After, Change, write, change, done, step}
-use Rattle.format.proofs.AnswerLaws.{unless_parts, both_parts, good-same}
 use Rattle.plate_archive.specs.declared.roots.Which.{Which}
 use Rattle.plate_archive.specs.declared.roots.Which.TheVariants.{Numbers, Casts, Parts}
 use Rattle.plate_archive.specs.Archives.{list, root_place, Three}
@@ -29,21 +26,6 @@ module _ (e : Call) (b : Builder) (buf : List ℕ) (c : Builder) (s : List ℕ) 
   pub refused : (f : Fault) → record { answer = bad f; builder = c; buffer = s } ≡ step e b buf → refuse f c s ≡ call e b buf
   refused f h = ap (λ (x : After). record { answer = x.answer; builder = x.builder; buffer = x.buffer }) h
 
--- an accepted build is at the next place of its kind
-pub built_place : (m : Meaning) (v : List ℕ) (b : Builder) (buf : List ℕ) (p : ℕ) (c : Builder) (s : List ℕ) → record { answer = good p; builder = c; buffer = s } ≡ step (builders.build m v) b buf → p ≡ up b.used m.align
-built_place m v b buf p c s h = go (unless (length buf == b.room) (fault 2 0) (change b (builders.build m v))) refl where
-  go : (x : Answer Change) → unless (length buf == b.room) (fault 2 0) (change b (builders.build m v)) ≡ x → p ≡ up b.used m.align
-  go (bad e) k =
-      let y : good p ≡ bad e = ap (λ (z : After). z.answer) (h ∙ ap (done b buf) k) in
-      let z : ◌≡◌ {A = ℕ} 0 1 = cc in absurd (omega arith)
-  go (good x) k =
-      let own = unless_parts (length buf == b.room) _ _ x k in
-      let small = unless_parts (nat_le (length v) limit) _ _ x own.1 in
-      let scanned = both_parts (m.scan v) _ x small.1 in
-      let whole = both_parts (ended v scanned.0) _ x scanned.1.1 in
-      let fitting = unless_parts _ _ _ x whole.1.1 in
-      good-same p x.answer (ap (λ (z : After). z.answer) (h ∙ ap (done b buf) k)) ∙ ap (λ (z : Change). z.answer) (sym (good-same _ x fitting.1))
-
 -- the list of a sheet, by the kind that it is built as
 module _ (w : Which) (v : List ℕ) (m : Meaning) (is : m ≡ list w) (b : Builder) (buf : List ℕ) (c : Builder) (s : List ℕ) where
   listed : (x : After) → x ≡ step (builders.build m v) b buf → x ≡ step (builders.build (list w) v) b buf
@@ -54,10 +36,6 @@ module _ (w : Which) (v : List ℕ) (m : Meaning) (is : m ≡ list w) (b : Build
 
   -- built at p, and then bytes are written at q
   module _ (p : ℕ) (h : record { answer = good p; builder = c; buffer = s } ≡ step (builders.build m v) b buf) (q : ℕ) (at : q ≡ root_place w) where
-    -- its distance has four bytes
-    pub near : b.used ≤ limit → p - q < 2 ^ 32
-    near i = let e : p ≡ up b.used 4 = built_place (list w) v b buf p c s (listed _ h) in omega arith
-
     module _ (bytes : List ℕ) (n : ℕ) (distance : n ≡ p - q) (are : bytes ≡ little.lay 4 n) (d : Builder) (t : List ℕ) where
       written : (x : After) → x ≡ step (write q bytes) c s → x ≡ step (write (root_place w) (little.lay 4 (p - root_place w))) c s
       written x k = k ∙ ap (λ z. step (write q z) c s) (are ∙ ap (little.lay 4) distance) ∙ ap (λ z. step (write z (little.lay 4 (p - z))) c s) at

@@ -1,12 +1,11 @@
-use Rattle.std.proofs.Common.{◌≤◌, ap, ◌∙◌, arith}
+use Rattle.std.proofs.Common.{ap, ◌∙◌}
 use Rattle.std.proofs.lemmas.Result.{err_from_is_err_and}
-use Rattle.format.specs.Places.{limit}
 use Rattle.format.specs.Orders.{little}
 use Rattle.format.specs.Links.{slice}
 use Rattle.refusal.specs.Told.{fault_of}
 use Rattle.builder.specs.Model.{model}
 use Rattle.plate_archive.specs.Archives.{root_place}
-use Rattle.plate_archive.proofs.AssemblyLaws.{list_refused, near, pointer_refused, list_built}
+use Rattle.plate_archive.proofs.AssemblyLaws.{list_refused, pointer_refused, list_built}
 use Rattle.plate_archive.proofs.assembly.build.Goals as goal
 
 pub returns-in_err-place : goal.returns-in_err-place
@@ -15,15 +14,6 @@ returns-in_err-place g c =
     rw (p.1, p.2)
     (list_refused g.R.Root.which c.args.sheet.now (slice (g.R.Item.Kind.meaning c.list_of.result.item) little) c.list_of.ensures (model c.args.builder.now) c.args.buffer.now
     (model c.build.new.self) c.build.new.buffer (fault_of c.in_err-place.field-0.0) c.in_err-place.ensures)
-
-pub overflow_cast-distance : goal.overflow_cast-distance
-overflow_cast-distance g c =
-    let i : c.args.builder.now.used ≤ c.args.builder.now.room = c.args.builder.now.inside in
-    let l : c.args.builder.now.room ≤ limit = c.args.builder.now.within in
-    let n =
-    near g.R.Root.which c.args.sheet.now (slice (g.R.Item.Kind.meaning c.list_of.result.item) little) c.list_of.ensures (model c.args.builder.now) c.args.buffer.now
-    (model c.build.new.self) c.build.new.buffer c.in_ok-place.place c.in_ok-place.ensures c.place-pointer.result (c.place-pointer.ensures ∙ ap root_place c.which.ensures) (omega arith) in
-    omega (arith, c.apart-distance.ensures)
 
 pub returns-in_err-write : goal.returns-in_err-write
 returns-in_err-write g c =
