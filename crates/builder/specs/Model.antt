@@ -3,6 +3,7 @@ use Rattle.std.specs.Prelude.{◌≡◌, ℕ, ◌+◌, ◌-◌, ◌≤◌, List,
 use Rattle.refusal.specs.declared.refusal.Refusal.{Refusal}
 use Rattle.refusal.specs.Told.{told}
 use Rattle.format.specs.Places.{stop, zeros}
+use Rattle.format.specs.Answers.{Answer}
 use Rattle.format.specs.Meaning.{Meaning}
 use Rattle.format.specs.Builder.{Builder, Change, After, Finished}
 use Rattle.builder.specs.declared.ZeroBuilder.{ZeroBuilder}
@@ -15,9 +16,13 @@ model b = record { used = b.used; align = b.align.bytes; room = b.room }
 abbrev pub finished_of : End → Finished
 finished_of f = record { length = f.length; alignment = f.alignment }
 
--- the answer, the builder and the buffer after a call
-abbrev pub left : Result ℕ Refusal → ZeroBuilder → List ℕ → After
-left r b buf = record { answer = told r; builder = model b; buffer = buf }
+-- an answer, the builder and the buffer after calls
+abbrev pub after : {A : Type 0} → A → ZeroBuilder → List ℕ → After A
+after a b buf = record { answer = a; builder = model b; buffer = buf }
+
+-- of one call
+abbrev pub left : Result ℕ Refusal → ZeroBuilder → List ℕ → After (Answer ℕ)
+left r b buf = after (told r) b buf
 
 -- zeros may be put up to p, and the archive may then have n bytes
 pub record Growable (b : Builder) (buf : List ℕ) (p n : ℕ) : Type 0 where

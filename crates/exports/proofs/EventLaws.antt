@@ -2,7 +2,7 @@
 use Rattle.std.proofs.Common.{◌≡◌, ℕ, List, Option, Some, None, Result, refl, sym, ap, ◌∙◌}
 use Rattle.format.specs.Answers as answers
 use Rattle.format.specs.Answers.{good, bad}
-use Rattle.format.specs.Builder.{Builder}
+use Rattle.format.specs.Builder.{Builder, After}
 use Rattle.builder.specs.declared.ZeroBuilder.{ZeroBuilder}
 use Rattle.builder.specs.Model.{model}
 use Rattle.naming.specs.Senses.{Sense, sense_of}
@@ -15,13 +15,13 @@ use Rattle.exports.specs.declared.event.Waiting.{Waiting}
 use Rattle.exports.specs.Numbers.{answer_of}
 use Rattle.exports.specs.Answering.{of_sense, of_order}
 use Rattle.exports.specs.Making.{Made, MadeIn}
-use Rattle.exports.specs.Lives.{Left, called}
+use Rattle.exports.specs.Lives.{called}
 use Rattle.exports.specs.Steps.{of_kind, left_by, Waits}
 
 pub by_model : {P : Type 0} {a b : ZeroBuilder} → (P → a ≡ b) → P → model a ≡ model b
 by_model h p = ap model (h p)
 
-abbrev whole : Answer → Builder → List ℕ → Left
+abbrev whole : Answer → Builder → List ℕ → After Answer
 whole a b buf = record { answer = a; builder = b; buffer = buf }
 
 -- where builder and buffer that were lent end as `b` and `buf`
@@ -41,10 +41,10 @@ module _
   ended : v.builder.ghost_name ≡ u.builder.ghost_name → v.buffer.ghost_name ≡ u.buffer.ghost_name → whole (answer_of r) b buf ≡ left_by r v.builder.now v.buffer.now
   ended e f = same _ _ _ _ _ _ refl (builder_ends (sym e)) (buffer_ends (sym f))
 
-  abbrev stays : Answer → Left
+  abbrev stays : Answer → After Answer
   stays a = whole a (model u.builder.now) u.buffer.now
 
-  abbrev used : Sense → Left
+  abbrev used : Sense → After Answer
   used k = called (model u.builder.now) u.buffer.now (of_kind u.event.now k.meaning)
 
   waited_of : (s : Option (answers.Answer Sense)) → Made Waits u r v s → whole (answer_of r) b buf ≡ of_sense stays used s

@@ -3,12 +3,12 @@ use Rattle.std.proofs.Common.{◌≡◌, ℕ, ◌+◌, ◌<◌, List, [], ◌∷
 use Rattle.std.proofs.lemmas.List.{take-set, take-append-drop, take_more_set, drop-set, drop-set-lt, at_drop_more}
 use Rattle.std.specs.Option.{option_map}
 use Rattle.format.specs.Builder as builders
-use Rattle.format.specs.Builder.{Builder}
+use Rattle.format.specs.Builder.{Builder, After}
 use Rattle.exports.specs.declared.answer.Answer.{Answer}
 use Rattle.exports.specs.declared.answer.NotMade.{NotMade}
 use Rattle.exports.specs.Numbers.{telling, why_not}
 use Rattle.exports.specs.Calls.{Front, Event, Asked, event, finish, first_call}
-use Rattle.exports.specs.Lives.{Left, Course, made, then_on, course, next}
+use Rattle.exports.specs.Lives.{Course, made, then_on, course, next}
 
 abbrev pub here : Option ℕ → ℕ → List ℕ → List ℕ → List Answer → Course
 here why n calls buf xs = record { stopped = why; made = n; behind = calls; buffer = buf; answers = xs }
@@ -44,7 +44,7 @@ module _ {w : Course} {xs : List Answer} {i : ℕ} {b : Builder} {buf calls : Li
         ∙ ap (λ y. after i (take i xs) (next (drop (i + 1) xs) (course (drop (i + 1) xs)) (get_or xs i (telling 0 0)) b buf calls y)) e
 
     pub goes_on :
-        (e : Event) (r : List ℕ) → first_call calls ≡ Some (record { what = event e; behind = r }) → (x : Left) → x ≡ made b buf e →
+        (e : Event) (r : List ℕ) → first_call calls ≡ Some (record { what = event e; behind = r }) → (x : After Answer) → x ≡ made b buf e →
         w ≡ left (set xs i x.answer) (i + 1) x.builder x.buffer r
     goes_on e r f x is =
         read _ f ∙ ap (λ y. after i (take i xs) (then_on y.answer (course (drop (i + 1) xs) y.builder y.buffer r))) (sym is)

@@ -10,20 +10,15 @@ use Rattle.exports.specs.Numbers.{telling, refused}
 use Rattle.exports.specs.Answering.{one, of_order}
 use Rattle.exports.specs.Calls.{Front, Event, known, named, Asked, event, finish, first_call}
 
--- the five numbers that answer a call, and what it leaves
-pub record Left : Type 0 where
-  pub answer : Answer
-  pub builder : Builder
-  pub buffer : List ℕ
-
-abbrev pub in_answer : After → Left
+-- a call that answers in five numbers
+abbrev pub in_answer : After (answers.Answer ℕ) → After Answer
 in_answer x = record { answer = one x.answer; builder = x.builder; buffer = x.buffer }
 
-abbrev pub called : Builder → List ℕ → Call → Left
+abbrev pub called : Builder → List ℕ → Call → After Answer
 called b buf c = in_answer (step c b buf)
 
 -- what an event leaves; without the kind that it is of, builder and buffer stay
-abbrev pub made : Builder → List ℕ → Event → Left
+abbrev pub made : Builder → List ℕ → Event → After Answer
 made b buf (known c) = called b buf c
 made b buf (named kind order c) = of_order (λ a. record { answer = a; builder = b; buffer = buf }) (λ k. called b buf (c k.meaning)) kind (order_named order)
 

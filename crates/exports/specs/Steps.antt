@@ -3,9 +3,9 @@ use Rattle.std.specs.Prelude.{◌≡◌, ℕ, List, Option, Some, None, Result}
 use Rattle.std.specs.Option.{option_map}
 use Rattle.std.specs.Borrow.{Bor}
 use Rattle.format.specs.Meaning.{Meaning}
-use Rattle.format.specs.Builder.{Call, align, reserve, reserve_bytes, write, push, push_bytes, build}
+use Rattle.format.specs.Builder.{Call, After, align, reserve, reserve_bytes, write, push, push_bytes, build}
 use Rattle.builder.specs.declared.ZeroBuilder.{ZeroBuilder}
-use Rattle.builder.specs.Model.{model}
+use Rattle.builder.specs.Model.{model, after}
 use Rattle.naming.specs.Senses.{Sense}
 use Rattle.exports.specs.declared.answer.Answer.{Answer}
 use Rattle.exports.specs.declared.answer.Told.{Told}
@@ -21,7 +21,7 @@ use Rattle.exports.specs.declared.encoded.Step.TheVariants as steps
 use Rattle.exports.specs.declared.life.Course.{Course}
 use Rattle.exports.specs.Numbers.{why_not, answer_of}
 use Rattle.exports.specs.Lives as lives
-use Rattle.exports.specs.Lives.{Left, called}
+use Rattle.exports.specs.Lives.{called}
 use Rattle.exports.specs.Calls as calls
 use Rattle.exports.specs.Calls.{Front, known, named, Asked, event, finish}
 
@@ -57,8 +57,8 @@ with_rest None = None
 with_rest (Some x) = Some (record { what = asked_of x.0; behind = x.1.now })
 
 -- the answer, the builder and the buffer after an event
-abbrev pub left_by : Result Told Trouble → ZeroBuilder → List ℕ → Left
-left_by r b buf = record { answer = answer_of r; builder = model b; buffer = buf }
+abbrev pub left_by : Result Told Trouble → ZeroBuilder → List ℕ → After Answer
+left_by r b buf = after (answer_of r) b buf
 
 -- what an event tells that waited for its kind: builder and buffer are still those that were lent
 abbrev pub Waits : Waiting → Sense → Result Told Trouble → Waiting → Type 0

@@ -33,9 +33,9 @@ pub data Call : Type 0 where
   push_bytes : List ℕ → ℕ → Call
   build : Meaning → List ℕ → Call
 
--- what a call answers, and what it leaves
-pub record After : Type 0 where
-  pub answer : Answer ℕ
+-- what calls answer, and the builder and the buffer after them
+pub record After (A : Type 0) : Type 0 where
+  pub answer : A
   pub builder : Builder
   pub buffer : List ℕ
 
@@ -83,10 +83,10 @@ module _ (b : Builder) where
       unless (nat_le x.end b.room) (fault 4 0)
       (good (record { answer = h; from = b.used; bytes = zeros (h - b.used) ++ (x.head ++ x.tail); used = x.end; align = max b.align x.widest })))))
 
-abbrev pub done : Builder → List ℕ → Answer Change → After
+abbrev pub done : Builder → List ℕ → Answer Change → After (Answer ℕ)
 done b buf (bad e) = record { answer = bad e; builder = b; buffer = buf }
 done b buf (good c) = record { answer = good c.answer; builder = record { used = c.used; align = c.align; room = b.room }; buffer = put buf c.from c.bytes }
 
 -- a call that is handed buf
-abbrev pub step : Call → Builder → List ℕ → After
+abbrev pub step : Call → Builder → List ℕ → After (Answer ℕ)
 step c b buf = done b buf (unless (length buf == b.room) (fault 2 0) (change b c))

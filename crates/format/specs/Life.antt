@@ -20,7 +20,7 @@ pub record Stage : Type 0 where
   pub builder : Builder
   pub buffer : List ℕ
 
-abbrev pub met : Event → Stage → After
+abbrev pub met : Event → Stage → After (Answer ℕ)
 met (own c) s = step c s.builder s.buffer
 met (other buf c) s = step c s.builder buf
 

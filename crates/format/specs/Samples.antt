@@ -3,7 +3,7 @@
 use Rattle.std.specs.Prelude.{◌≡◌, ℕ, List, [], ◌∷◌, ◌++◌, length, replicate}
 use Rattle.format.specs.Places.{zeros}
 use Rattle.format.specs.Orders.{little, big}
-use Rattle.format.specs.Answers.{good, bad, fault}
+use Rattle.format.specs.Answers.{Answer, good, bad, fault}
 use Rattle.format.specs.Meaning.{Meaning}
 use Rattle.format.specs.Scalars.{number_kind}
 use Rattle.format.specs.Texts.{text_kind, inline_kind}
@@ -37,10 +37,10 @@ counted_from_the_first_item = 2 ∷ 0 ∷ 0 ∷ 0 ∷ 4 ∷ 0 ∷ 0 ∷ 0 ∷ 2 
 abbrev pub pointer_to_1234 : List ℕ
 pointer_to_1234 = 0x52 ∷ 0x50 ∷ 0x4e ∷ 0x32 ∷ 0x34 ∷ 0x12 ∷ []
 
-abbrev pub one_pushed : ℕ → After
+abbrev pub one_pushed : ℕ → After (Answer ℕ)
 one_pushed n = step (push_bytes (0xff ∷ []) 1) (opened n) (zeros n)
 
-abbrev pub pointer_built : ℕ → After
+abbrev pub pointer_built : ℕ → After (Answer ℕ)
 pointer_built n = step (build (pointer (number_kind 2 little) little) pointer_to_1234) (one_pushed n).builder (one_pushed n).buffer
 
 -- the text a, e acute, e acute, as an inline text

@@ -1,14 +1,14 @@
 -- What calls one behind another leave, by what each of them leaves. Assumes nothing.
 use Rattle.std.proofs.Common.{◌≡◌, ℕ, ◌-◌, List, ap, ◌∙◌}
-use Rattle.format.specs.Answers.{Fault, good, bad}
+use Rattle.format.specs.Answers.{Answer, Fault, good, bad}
 use Rattle.format.specs.Orders.{little}
 use Rattle.format.specs.Meaning.{Meaning}
 use Rattle.format.specs.Builder as builders
-use Rattle.format.specs.Builder.{Builder, Call, After, Change, write, change, done, step}
+use Rattle.format.specs.Builder.{Builder, After, write, step}
 use Rattle.plate_archive.specs.declared.roots.Which.{Which}
 use Rattle.plate_archive.specs.declared.roots.Which.TheVariants.{Numbers, Casts, Parts}
 use Rattle.plate_archive.specs.Archives.{list, root_place, Three}
-use Rattle.plate_archive.specs.Assembly.{Run, call, tell, refuse, by, then, build, build_lists}
+use Rattle.plate_archive.specs.Assembly.{Run, tell, refuse, by, then, build, build_lists}
 
 -- behind a first that answers a, or is refused
 module _ {A B : Type 0} (first : Run A) (next : A → Run B) (b : Builder) (buf : List ℕ) (c : Builder) (s : List ℕ) where
@@ -18,36 +18,28 @@ module _ {A B : Type 0} (first : Run A) (next : A → Run B) (b : Builder) (buf 
   pub stops : (e : Fault) → refuse e c s ≡ first b buf → refuse e c s ≡ then first next b buf
   stops e h = ap (λ x. by next x.answer x.builder x.buffer) h
 
--- one call
-module _ (e : Call) (b : Builder) (buf : List ℕ) (c : Builder) (s : List ℕ) where
-  pub accepted : (n : ℕ) → record { answer = good n; builder = c; buffer = s } ≡ step e b buf → tell n c s ≡ call e b buf
-  accepted n h = ap (λ (x : After). record { answer = x.answer; builder = x.builder; buffer = x.buffer }) h
-
-  pub refused : (f : Fault) → record { answer = bad f; builder = c; buffer = s } ≡ step e b buf → refuse f c s ≡ call e b buf
-  refused f h = ap (λ (x : After). record { answer = x.answer; builder = x.builder; buffer = x.buffer }) h
-
 -- the list of a sheet, by the kind that it is built as
 module _ (w : Which) (v : List ℕ) (m : Meaning) (is : m ≡ list w) (b : Builder) (buf : List ℕ) (c : Builder) (s : List ℕ) where
-  listed : (x : After) → x ≡ step (builders.build m v) b buf → x ≡ step (builders.build (list w) v) b buf
+  listed : (x : After (Answer ℕ)) → x ≡ step (builders.build m v) b buf → x ≡ step (builders.build (list w) v) b buf
   listed x h = h ∙ ap (λ m. step (builders.build m v) b buf) is
 
   pub list_refused : (e : Fault) → record { answer = bad e; builder = c; buffer = s } ≡ step (builders.build m v) b buf → refuse e c s ≡ build w v b buf
-  list_refused e h = stops (call (builders.build (list w) v)) _ b buf c s e (refused (builders.build (list w) v) b buf c s e (listed _ h))
+  list_refused e h = stops (step (builders.build (list w) v)) _ b buf c s e (listed _ h)
 
   -- built at p, and then bytes are written at q
   module _ (p : ℕ) (h : record { answer = good p; builder = c; buffer = s } ≡ step (builders.build m v) b buf) (q : ℕ) (at : q ≡ root_place w) where
     module _ (bytes : List ℕ) (n : ℕ) (distance : n ≡ p - q) (are : bytes ≡ little.lay 4 n) (d : Builder) (t : List ℕ) where
-      written : (x : After) → x ≡ step (write q bytes) c s → x ≡ step (write (root_place w) (little.lay 4 (p - root_place w))) c s
+      written : (x : After (Answer ℕ)) → x ≡ step (write q bytes) c s → x ≡ step (write (root_place w) (little.lay 4 (p - root_place w))) c s
       written x k = k ∙ ap (λ z. step (write q z) c s) (are ∙ ap (little.lay 4) distance) ∙ ap (λ z. step (write z (little.lay 4 (p - z))) c s) at
 
-      behind : then (call (write (root_place w) (little.lay 4 (p - root_place w)))) (λ _. tell p) c s ≡ build w v b buf
-      behind = goes_on (call (builders.build (list w) v)) (λ p. then (call (write (root_place w) (little.lay 4 (p - root_place w)))) (λ _. tell p)) b buf c s p (accepted (builders.build (list w) v) b buf c s p (listed _ h))
+      behind : then (step (write (root_place w) (little.lay 4 (p - root_place w)))) (λ _. tell p) c s ≡ build w v b buf
+      behind = goes_on (step (builders.build (list w) v)) (λ p. then (step (write (root_place w) (little.lay 4 (p - root_place w)))) (λ _. tell p)) b buf c s p (listed _ h)
 
       pub pointer_refused : (e : Fault) → record { answer = bad e; builder = d; buffer = t } ≡ step (write q bytes) c s → refuse e d t ≡ build w v b buf
-      pointer_refused e k = stops (call (write (root_place w) (little.lay 4 (p - root_place w)))) (λ _. tell p) c s d t e (refused (write (root_place w) (little.lay 4 (p - root_place w))) c s d t e (written _ k)) ∙ behind
+      pointer_refused e k = stops (step (write (root_place w) (little.lay 4 (p - root_place w)))) (λ _. tell p) c s d t e (written _ k) ∙ behind
 
       pub list_built : (o : ℕ) → record { answer = good o; builder = d; buffer = t } ≡ step (write q bytes) c s → tell p d t ≡ build w v b buf
-      list_built o k = goes_on (call (write (root_place w) (little.lay 4 (p - root_place w)))) (λ _. tell p) c s d t o (accepted (write (root_place w) (little.lay 4 (p - root_place w))) c s d t o (written _ k)) ∙ behind
+      list_built o k = goes_on (step (write (root_place w) (little.lay 4 (p - root_place w)))) (λ _. tell p) c s d t o (written _ k) ∙ behind
 
 -- the three lists
 module _ (x : Three (List ℕ)) where

@@ -4,24 +4,14 @@ use Rattle.format.specs.Places.{limit, zeros}
 use Rattle.format.specs.Orders.{little}
 use Rattle.format.specs.Answers.{Answer, Fault, good, bad, both}
 use Rattle.format.specs.Builder as builders
-use Rattle.format.specs.Builder.{Builder, Finished, new, Call, reserve, write, step, finish}
+use Rattle.format.specs.Builder.{Builder, After, Finished, new, reserve, write, step, finish}
 use Rattle.plate_archive.specs.declared.roots.Which.{Which}
 use Rattle.plate_archive.specs.declared.roots.Which.TheVariants.{Numbers, Casts, Parts}
 use Rattle.plate_archive.specs.Archives.{list, root, root_place, Three}
 
--- what calls one behind another answer, and the builder and the buffer after them
-pub record Left (A : Type 0) : Type 0 where
-  pub answer : Answer A
-  pub builder : Builder
-  pub buffer : List ℕ
-
--- calls on a builder and its buffer
+-- calls one behind another, on a builder and its buffer; `step` is one
 abbrev pub Run : Type 0 → Type 0
-Run A = Builder → List ℕ → Left A
-
--- one call
-abbrev pub call : Call → Run ℕ
-call c b buf = let x = step c b buf in record { answer = x.answer; builder = x.builder; buffer = x.buffer }
+Run A = Builder → List ℕ → After (Answer A)
 
 -- no call: an answer, or a refusal
 abbrev pub tell : {A : Type 0} → A → Run A
@@ -40,11 +30,11 @@ then first next b buf = let x = first b buf in by next x.answer x.builder x.buff
 
 -- the three pointers come first, so that they stand at 0, 4 and 8; the place of the last is told
 abbrev pub reserve_pointers : Run ℕ
-reserve_pointers = then (call (reserve (root Numbers))) (λ _. then (call (reserve (root Casts))) (λ _. call (reserve (root Parts))))
+reserve_pointers = then (step (reserve (root Numbers))) (λ _. then (step (reserve (root Casts))) (λ _. step (reserve (root Parts))))
 
 -- the list of a sheet behind what stands, whose place is told; its distance from its pointer is written there
 abbrev pub build : Which → List ℕ → Run ℕ
-build w sheet = then (call (builders.build (list w) sheet)) (λ p. then (call (write (root_place w) (little.lay 4 (p - root_place w)))) (λ _. tell p))
+build w sheet = then (step (builders.build (list w) sheet)) (λ p. then (step (write (root_place w) (little.lay 4 (p - root_place w)))) (λ _. tell p))
 
 -- the three lists in order, and where they are
 abbrev pub build_lists : Three (List ℕ) → Run (Three ℕ)
@@ -64,7 +54,7 @@ pub record Outcome : Type 0 where
   pub answer : Answer Made
   pub buffer : List ℕ
 
-abbrev pub ended : Left (Three ℕ) → Outcome
+abbrev pub ended : After (Answer (Three ℕ)) → Outcome
 ended x = record { answer = both x.answer (λ p. good (record { places = p; finished = finish x.builder })); buffer = x.buffer }
 
 -- on a buffer that is handed over

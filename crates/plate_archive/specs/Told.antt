@@ -4,10 +4,11 @@ use Rattle.std.specs.Global.{Vec}
 use Rattle.format.specs.Answers as answers
 use Rattle.format.specs.Answers.{good, bad}
 use Rattle.format.specs.Links.{Span}
+use Rattle.format.specs.Builder.{After}
 use Rattle.refusal.specs.declared.refusal.Refusal.{Refusal}
 use Rattle.refusal.specs.Told.{fault_of, told_by}
 use Rattle.builder.specs.declared.ZeroBuilder.{ZeroBuilder}
-use Rattle.builder.specs.Model.{model, finished_of}
+use Rattle.builder.specs.Model.{after, finished_of}
 use Rattle.plate_archive.specs.declared.items.Items.{Items}
 use Rattle.plate_archive.specs.declared.fault.Fault.{Fault}
 use Rattle.plate_archive.specs.declared.fault.Fault.TheVariants.{Refused, Uneven, NoPlates, Altered, Memory}
@@ -15,7 +16,7 @@ use Rattle.plate_archive.specs.declared.roots.PerList.{PerList}
 use Rattle.plate_archive.specs.declared.assembly.Assembled.{Assembled}
 use Rattle.plate_archive.specs.declared.assembly.AssembleError.{AssembleError}
 use Rattle.plate_archive.specs.declared.assembly.AssembleError.TheVariants as assembling
-use Rattle.plate_archive.specs.Assembly.{Left, Made, Archive}
+use Rattle.plate_archive.specs.Assembly.{Made, Archive}
 use Rattle.plate_archive.specs.Archives.{Three, Wrong, refused, uneven, no_plates, altered, no_memory, Judged, sound, wrong}
 
 abbrev pub span_of : Items → Span
@@ -45,8 +46,8 @@ Says (wrong no_memory) y = Unit {0}
 Says x y = x ≡ y
 
 -- the answer, the builder and the buffer after calls
-abbrev pub left_by : {A B : Type 0} → (A → B) → Result A Refusal → ZeroBuilder → List ℕ → Left B
-left_by f r b buf = record { answer = told_by f r; builder = model b; buffer = buf }
+abbrev pub left_by : {A B : Type 0} → (A → B) → Result A Refusal → ZeroBuilder → List ℕ → After (answers.Answer B)
+left_by f r b buf = after (told_by f r) b buf
 
 abbrev pub places_of : PerList ℕ → Three ℕ
 places_of x = record { numbers = x.numbers; casts = x.casts; parts = x.parts }
