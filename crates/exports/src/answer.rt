@@ -8,7 +8,7 @@ use refusal::Refusal;
 
 // As `c/gachullpi.h` has it.
 #[repr(C)]
-#[derive(Clone, Copy, PartialEq, Eq, Debug)]
+#[derive(Clone, Copy)]
 pub struct Answer {
     pub refusal: u64,
     pub place: u64,
