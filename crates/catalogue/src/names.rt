@@ -1,7 +1,8 @@
 // The kinds that a name can tell, outermost first: each leaf; each holding kind over each leaf; two holding kinds over some leaves; and some that are deeper.
-ghost use Rattle.std.specs.Prelude.{◌≡◌, List, [], ◌∷◌, ◌++◌, MatchOption};
+ghost use Rattle.std.specs.Prelude.{◌≡◌, List, [], ◌∷◌, ◌++◌, MatchOption, nat_eq};
+ghost use Rattle.std.specs.Cmp.Lexicographic.{pointwise};
 ghost use Rattle.std.specs.Option.{option_map};
-ghost use Rattle.naming.specs.Forms.{Form, number, text, leaves, held, deeper, vast, bad_counts, named_among};
+ghost use Rattle.naming.specs.Forms.{Form, number, text, leaves, held, deep_pointers, deep_slices, deep_counted, vast, bad_counts, named_among};
 ghost use Rattle.naming.specs.Senses.{meant, sense_of};
 ghost use Rattle.naming.proofs.Naming.{NoneHolds};
 ghost use Rattle.catalogue.specs.Fronts.{letters};
@@ -128,48 +129,83 @@ impl<P: Part> Part for Layer<P> {
     }
 }
 
-// Some kinds by their whole names, where what holds a leaf stands first here, and last in the name.
-struct Deep;
+// As `==`, which takes no byte string beside a slice.
+fn is(name: &[u8], whole: &[u8]) -> bool
+    ensures { result ≡ pointwise nat_eq name.now whole.now }
+{
+    name == whole
+}
 
-impl Part for Deep {
-    ghost forms = { deeper };
+// Some kinds by their whole names, where what holds a leaf stands first here, and last in the name. First those that are pointers.
+struct DeepPointer;
+
+impl Part for DeepPointer {
+    ghost forms = { deep_pointers };
 
     #[inline(never)]
     fn run<H: Hold, E: Endian, U: Use>(name: &[u8], purpose: &mut U) -> Result<U::Answer, Missing> {
-        if name == b"psst".as_slice() {
+        if is(name, b"psst") {
             Sliced::<Sliced<Pointed<H>>>::run::<_, E, U>(ZeroStr::<E>::new(), purpose)
-        } else if name == b"pp8".as_slice() {
+        } else if is(name, b"pp8") {
             Pointed::<Pointed<H>>::run::<_, E, U>(Number8::<E>::new(), purpose)
-        } else if name == b"ss8".as_slice() {
-            Sliced::<Sliced<H>>::run::<_, E, U>(Number8::<E>::new(), purpose)
-        } else if name == b"i4.".as_slice() {
-            H::run::<_, E, U>(ZeroString::<E>::new(4)?, purpose)
-        } else if name == b"r2.pb".as_slice() {
-            Pointed::<Arrayed<H, 2>>::run::<_, E, U>(Truths::<E>::new(), purpose)
-        } else if name == b"ppp1".as_slice() {
+        } else if is(name, b"ppp1") {
             Pointed::<Pointed<Pointed<H>>>::run::<_, E, U>(Number1::<E>::new(), purpose)
-        } else if name == b"sss2".as_slice() {
-            Sliced::<Sliced<Sliced<H>>>::run::<_, E, U>(Number2::<E>::new(), purpose)
-        } else if name == b"spsb".as_slice() {
-            Sliced::<Pointed<Sliced<H>>>::run::<_, E, U>(Truths::<E>::new(), purpose)
-        } else if name == b"r2.sr2.c".as_slice() {
-            Arrayed::<Sliced<Arrayed<H, 2>>, 2>::run::<_, E, U>(Characters::<E>::new(), purpose)
-        } else if name == b"sa3.r2.8".as_slice() {
-            Arrayed::<Far<Sliced<H>, 3>, 2>::run::<_, E, U>(Number8::<E>::new(), purpose)
-        } else if name == b"ssr2.1".as_slice() {
-            Arrayed::<Sliced<Sliced<H>>, 2>::run::<_, E, U>(Number1::<E>::new(), purpose)
-        } else if name == b"a3.a3.a3.1".as_slice() {
-            Far::<Far<Far<H, 3>, 3>, 3>::run::<_, E, U>(Number1::<E>::new(), purpose)
-        } else if name == b"r2.r2.r2.b".as_slice() {
-            Arrayed::<Arrayed<Arrayed<H, 2>, 2>, 2>::run::<_, E, U>(Truths::<E>::new(), purpose)
-        } else if name == b"a3.pst".as_slice() {
-            Sliced::<Pointed<Far<H, 3>>>::run::<_, E, U>(ZeroStr::<E>::new(), purpose)
-        } else if name == b"psa3.i5.".as_slice() {
+        } else if is(name, b"psa3.i5.") {
             Far::<Sliced<Pointed<H>>, 3>::run::<_, E, U>(ZeroString::<E>::new(5)?, purpose)
-        } else if name == b"pr2.st".as_slice() {
+        } else if is(name, b"pr2.st") {
             Sliced::<Arrayed<Pointed<H>, 2>>::run::<_, E, U>(ZeroStr::<E>::new(), purpose)
-        } else if name == b"spst".as_slice() {
+        } else {
+            Err(Missing::NoKind)
+        }
+    }
+}
+
+// Those that are slices.
+struct DeepSlice;
+
+impl Part for DeepSlice {
+    ghost forms = { deep_slices };
+
+    #[inline(never)]
+    fn run<H: Hold, E: Endian, U: Use>(name: &[u8], purpose: &mut U) -> Result<U::Answer, Missing> {
+        if is(name, b"ss8") {
+            Sliced::<Sliced<H>>::run::<_, E, U>(Number8::<E>::new(), purpose)
+        } else if is(name, b"sss2") {
+            Sliced::<Sliced<Sliced<H>>>::run::<_, E, U>(Number2::<E>::new(), purpose)
+        } else if is(name, b"spsb") {
+            Sliced::<Pointed<Sliced<H>>>::run::<_, E, U>(Truths::<E>::new(), purpose)
+        } else if is(name, b"sa3.r2.8") {
+            Arrayed::<Far<Sliced<H>, 3>, 2>::run::<_, E, U>(Number8::<E>::new(), purpose)
+        } else if is(name, b"ssr2.1") {
+            Arrayed::<Sliced<Sliced<H>>, 2>::run::<_, E, U>(Number1::<E>::new(), purpose)
+        } else if is(name, b"spst") {
             Sliced::<Pointed<Sliced<H>>>::run::<_, E, U>(ZeroStr::<E>::new(), purpose)
+        } else {
+            Err(Missing::NoKind)
+        }
+    }
+}
+
+// Those that have a count or a capacity of their own.
+struct DeepCounted;
+
+impl Part for DeepCounted {
+    ghost forms = { deep_counted };
+
+    #[inline(never)]
+    fn run<H: Hold, E: Endian, U: Use>(name: &[u8], purpose: &mut U) -> Result<U::Answer, Missing> {
+        if is(name, b"i4.") {
+            H::run::<_, E, U>(ZeroString::<E>::new(4)?, purpose)
+        } else if is(name, b"r2.pb") {
+            Pointed::<Arrayed<H, 2>>::run::<_, E, U>(Truths::<E>::new(), purpose)
+        } else if is(name, b"r2.sr2.c") {
+            Arrayed::<Sliced<Arrayed<H, 2>>, 2>::run::<_, E, U>(Characters::<E>::new(), purpose)
+        } else if is(name, b"a3.a3.a3.1") {
+            Far::<Far<Far<H, 3>, 3>, 3>::run::<_, E, U>(Number1::<E>::new(), purpose)
+        } else if is(name, b"r2.r2.r2.b") {
+            Arrayed::<Arrayed<Arrayed<H, 2>, 2>, 2>::run::<_, E, U>(Truths::<E>::new(), purpose)
+        } else if is(name, b"a3.pst") {
+            Sliced::<Pointed<Far<H, 3>>>::run::<_, E, U>(ZeroStr::<E>::new(), purpose)
         } else {
             Err(Missing::NoKind)
         }
@@ -184,17 +220,17 @@ impl Part for Stopping {
 
     #[inline(never)]
     fn run<H: Hold, E: Endian, U: Use>(name: &[u8], purpose: &mut U) -> Result<U::Answer, Missing> {
-        if name == b"r65535.r65535.8".as_slice() {
+        if is(name, b"r65535.r65535.8") {
             Arrayed::<Arrayed<H, MOST>, MOST>::run::<_, E, U>(Number8::<E>::new(), purpose)
-        } else if name == b"sr65535.r65535.8".as_slice() {
+        } else if is(name, b"sr65535.r65535.8") {
             Arrayed::<Arrayed<Sliced<H>, MOST>, MOST>::run::<_, E, U>(Number8::<E>::new(), purpose)
-        } else if name == b"r65535.r65535.r65535.r65535.8".as_slice() {
+        } else if is(name, b"r65535.r65535.r65535.r65535.8") {
             Vast::<H>::run::<_, E, U>(Number8::<E>::new(), purpose)
-        } else if name == b"pr65535.r65535.r65535.r65535.8".as_slice() {
+        } else if is(name, b"pr65535.r65535.r65535.r65535.8") {
             Vast::<Pointed<H>>::run::<_, E, U>(Number8::<E>::new(), purpose)
-        } else if name == b"sr65535.r65535.r65535.r65535.8".as_slice() {
+        } else if is(name, b"sr65535.r65535.r65535.r65535.8") {
             Vast::<Sliced<H>>::run::<_, E, U>(Number8::<E>::new(), purpose)
-        } else if name == b"r32767.i65535.".as_slice() {
+        } else if is(name, b"r32767.i65535.") {
             Arrayed::<H, MANY>::run::<_, E, U>(ZeroString::<E>::new(MOST as usize)?, purpose)
         } else {
             Err(Missing::NoKind)
@@ -210,11 +246,11 @@ impl Part for Refusing {
 
     #[inline(never)]
     fn run<H: Hold, E: Endian, U: Use>(name: &[u8], purpose: &mut U) -> Result<U::Answer, Missing> {
-        if name == b"r0.1".as_slice() {
+        if is(name, b"r0.1") {
             Arrayed::<H, 0>::run::<_, E, U>(Number1::<E>::new(), purpose)
-        } else if name == b"a65536.1".as_slice() {
+        } else if is(name, b"a65536.1") {
             Far::<H, OVER>::run::<_, E, U>(Number1::<E>::new(), purpose)
-        } else if name == b"i0.".as_slice() {
+        } else if is(name, b"i0.") {
             H::run::<_, E, U>(ZeroString::<E>::new(0)?, purpose)
         } else {
             Err(Missing::NoKind)
@@ -237,6 +273,8 @@ impl<P: Part, Q: Part> Part for Or<P, Q> {
         }
     }
 }
+
+type Deep = Or<DeepPointer, Or<DeepSlice, DeepCounted>>;
 
 // Short names are looked for first, since they are used most.
 type All = Or<Layer<Layer<DeepLeaf>>, Or<Deep, Or<Stopping, Refusing>>>;

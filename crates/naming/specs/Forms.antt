@@ -48,13 +48,24 @@ held fs = map pointer fs ++ (map (array 2) fs ++ (map (far_array 3) fs ++ map sl
 abbrev pub shallow : List Form
 shallow = leaves ++ held (leaves ++ held (number 2 ∷ text ∷ []))
 
--- some that are deeper, and a few like those above
+-- some that are deeper, and a few like those above, by what is outermost: a pointer, a slice, or what has a count or a capacity
+abbrev pub deep_pointers : List Form
+deep_pointers =
+    pointer (slice (slice text)) ∷ pointer (pointer (number 8)) ∷ pointer (pointer (pointer (number 1))) ∷ pointer (slice (far_array 3 (inline 5)))
+    ∷ pointer (array 2 (slice text)) ∷ []
+
+abbrev pub deep_slices : List Form
+deep_slices =
+    slice (slice (number 8)) ∷ slice (slice (slice (number 2))) ∷ slice (pointer (slice truth)) ∷ slice (far_array 3 (array 2 (number 8)))
+    ∷ slice (slice (array 2 (number 1))) ∷ slice (pointer (slice text)) ∷ []
+
+abbrev pub deep_counted : List Form
+deep_counted =
+    inline 4 ∷ array 2 (pointer truth) ∷ array 2 (slice (array 2 character)) ∷ far_array 3 (far_array 3 (far_array 3 (number 1)))
+    ∷ array 2 (array 2 (array 2 truth)) ∷ far_array 3 (pointer (slice text)) ∷ []
+
 abbrev pub deeper : List Form
-deeper =
-    pointer (slice (slice text)) ∷ pointer (pointer (number 8)) ∷ slice (slice (number 8)) ∷ inline 4 ∷ array 2 (pointer truth) ∷ pointer (pointer (pointer (number 1)))
-    ∷ slice (slice (slice (number 2))) ∷ slice (pointer (slice truth)) ∷ array 2 (slice (array 2 character)) ∷ slice (far_array 3 (array 2 (number 8)))
-    ∷ slice (slice (array 2 (number 1))) ∷ far_array 3 (far_array 3 (far_array 3 (number 1))) ∷ array 2 (array 2 (array 2 truth))
-    ∷ far_array 3 (pointer (slice text)) ∷ pointer (slice (far_array 3 (inline 5))) ∷ pointer (array 2 (slice text)) ∷ slice (pointer (slice text)) ∷ []
+deeper = deep_pointers ++ (deep_slices ++ deep_counted)
 
 -- an array of 65,535 of a kind
 abbrev pub most : Form → Form
