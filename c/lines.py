@@ -11,6 +11,7 @@ import sys
 
 OLD = b"\xee"
 NO_KIND, NO_GET = 100, 102
+NOT_OF_C = ("texts", "word", "worked", "tell")
 CALLS = {name: n + 1 for n, name in enumerate(["align", "reserve", "reserve_bytes", "write", "push", "push_bytes", "build", "finish"])}
 
 
@@ -87,9 +88,13 @@ class Desk:
 
     def answer(self, line):
         call, *rest = line
+        if call in NOT_OF_C:
+            return None
         if call == "new":
             self.room, self.calls = int(rest[0]), []
             return "ok"
+        if call == "text":
+            return "ok text" if self.library.gachullpi_is_text(*sized(unhexed(rest[0]))) else "ok no text"
         if call == "scan":
             answer = self.library.gachullpi_scan(*sized(rest[0].encode()), *sized(unhexed(rest[1])))
             return words_of(answer, str(answer.value))

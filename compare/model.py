@@ -1,5 +1,5 @@
 #!/usr/bin/env python3
-"""A second reading of the format, in Python, to compare the program `replay` with: it answers the same lines.
+"""A second reading of the format, in Python, to compare the program `replay` with: it answers the same lines, but for `tell` and `worked`.
 
     python3 compare/model.py < lines        # one answer a line, as replay prints them
 
@@ -377,6 +377,25 @@ def unhex(w):
     return b"" if w == "-" else bytes.fromhex(w)
 
 
+FRONTS = {"p": (b"RP", 1), "r": (b"AN", 2), "a": (b"AR", 3)}
+
+
+def word(letter, sheet):
+    """The word that a sheet begins with: where it begins and ends, and what it is."""
+    if letter in "ti":
+        bs = sheet_text(sheet, 0, b"TX" if letter == "t" else b"TI")
+        return [0, 6 + len(bs), "text", bs]
+    if letter in FRONTS:
+        m, count = FRONTS[letter]
+        mark(sheet, 0, m, 0)
+        return [0, 2, "values", count]
+    if letter == "s":
+        mark(sheet, 0, b"SL", 4)
+        return [0, 6, "values", int.from_bytes(sheet[2:6], "little")]
+    end = kind(letter, "little").scan(sheet, 0)
+    return [0, end, "number", int.from_bytes(sheet[2:end], "little")]
+
+
 class Desk:
     builder = None
 
@@ -386,6 +405,13 @@ class Desk:
             words = words[1:]
         name, args = words[0], words[1:]
         orders = {"l": "little", "b": "big"}
+        if name == "text":
+            return "ok text" if is_text(unhex(args[0])) else "ok no text"
+        if name == "texts":
+            length = int(args[0])
+            return [sum(is_text(n.to_bytes(length, "big")) for n in range(256**length))]
+        if name == "word":
+            return word(args[0], unhex(args[1]))
         if name == "scan":
             return [kind(args[0], "little").scan(unhex(args[1]), 0)]
         if name in ("shallow", "deep", "get", "copy"):

@@ -166,6 +166,46 @@ not a call: a number was expected
 not a call: hexadecimal digits were expected
 ok 3 4E3100"
 
+expect "lines on text, words of sheets and counts that are no calls" "text
+text 4
+text 4a
+texts
+texts x
+texts 4
+texts 0
+word
+word 1
+word 1 4
+word N1 4E3107
+word i4. 544900000000
+word x -
+short text 41
+tell
+tell nonsense
+tell new 8
+tell text 41
+tell short align 1
+tell get 1 l 0 00" "not a call: a word is missing
+not a call: an odd number of hexadecimal digits
+not a call: hexadecimal digits were expected
+not a call: a word is missing
+not a call: a number was expected
+not a call: texts are counted up to a length of 3
+ok 1
+not a call: a word is missing
+not a call: a word is missing
+not a call: an odd number of hexadecimal digits
+not a call: no such word of a sheet
+not a call: no such word of a sheet
+not a call: no such word of a sheet
+not a call: no such call
+not a call: a word is missing
+not a call: no such call
+not a call: no such call
+not a call: no such call
+not a call: no such call
+not a call: this kind has no get"
+
 # That no builder is open is told before what is wrong with numbers, the kind or the order, as the model has it.
 expect "calls of a builder where none is open" "align x
 reserve x x

@@ -4,68 +4,138 @@ ghost use Rattle.std.specs.Prelude.{⊤};
 use crate::desk::Desk;
 use crate::said::Said;
 use crate::trouble::{Trouble, Unread};
+use crate::words::Words;
 use archive::{copy_out, get, is_valid, is_valid_deep};
+use builder::ZeroBuilder;
 use catalogue::Use;
 use kind::{Found, Kind, OneStep};
+use refusal::Refusal;
 
 // A value's head in an archive.
-#[derive(Drop)]
-pub struct Root {
-    pub archive: Vec<u8>,
+#[derive(Clone, Copy)]
+pub struct Root<'a> {
+    pub archive: &'a [u8],
     pub place: usize,
 }
 
-#[derive(Drop)]
-pub enum Call {
-    Scan(Vec<u8>),
-    Shallow(Root),
-    Deep(Root),
-    Get(Root),
-    Copy(Root, usize),
-    Reserve,
-    Push(Vec<u8>),
-    Build(Vec<u8>),
+// What is asked of a value in an archive.
+#[derive(Clone, Copy)]
+pub enum Ask {
+    Shallow,
+    Deep,
+    Get,
+    // Into an output of so many bytes.
+    Copy(usize),
 }
 
-impl Call {
-    // One step is not for each kind. Not put in line: the program would take twice as long to compile.
-    #[inline(never)]
-    fn make<K: Kind>(&self, desk: &mut Desk, buffer: &mut [u8], kind: &K) -> Result<Said, Trouble> {
-        let number = match self {
-            Call::Scan(sheet) => kind.scan(sheet.as_slice(), 0)?,
-            Call::Shallow(root) => is_valid(kind, root.archive.as_slice(), root.place)?,
-            Call::Deep(root) => is_valid_deep(kind, root.archive.as_slice(), root.place)?,
-            Call::Get(_) => return Err(Unread::NoGet.into()),
-            Call::Copy(root, room) => {
-                let mut output = desk.filled(*room)?;
-                let length = copy_out(
-                    kind,
-                    root.archive.as_slice(),
-                    root.place,
-                    output.as_mut_slice(),
-                )?;
-                return Ok(Said::Bytes(length, output));
-            }
-            Call::Reserve => desk.builder()?.reserve(buffer, kind)?,
-            Call::Push(bytes) => desk.builder()?.push(buffer, kind, bytes.as_slice())?,
-            Call::Build(sheet) => desk.builder()?.build(buffer, kind, sheet.as_slice())?,
+// A call on an archive.
+#[derive(Clone, Copy)]
+pub struct Look<'a> {
+    root: Root<'a>,
+    ask: Ask,
+}
+
+impl Look<'_> {
+    // One step is not for each kind.
+    fn make<K: Kind>(self, desk: &Desk, kind: &K) -> Result<Said, Trouble> {
+        let Root { archive, place } = self.root;
+        let answer = match self.ask {
+            Ask::Shallow => is_valid(kind, archive, place),
+            Ask::Deep => is_valid_deep(kind, archive, place),
+            Ask::Get => return Err(Unread::NoGet.into()),
+            Ask::Copy(room) => return copy(self.root, room, desk, kind),
         };
-        Ok(Said::Number(number))
+        Ok(Said::Number(answer?))
     }
 }
 
-fn step<K: OneStep>(root: &Root, desk: &Desk, kind: &K) -> Result<Said, Trouble> {
-    match get(kind, root.archive.as_slice(), root.place)? {
+fn copy<K: Kind>(root: Root, room: usize, desk: &Desk, kind: &K) -> Result<Said, Trouble> {
+    let mut output = desk.filled(room)?;
+    let length = copy_out(kind, root.archive, root.place, output.as_mut_slice())?;
+    Ok(Said::Bytes(length, desk.hexadecimal(output.as_slice())?))
+}
+
+fn found(found: Found, desk: &Desk) -> Result<Said, Trouble> {
+    match found {
         Found::Target { place } => Ok(Said::Number(place)),
         Found::Items { place, count } => Ok(Said::Pair(place, count as usize)),
-        Found::Text(part) => Ok(Said::Bytes(part.place, desk.copied(part.bytes)?)),
+        Found::Text(part) => Ok(Said::Bytes(part.place, desk.hexadecimal(part.bytes)?)),
+    }
+}
+
+// A call on the open builder.
+#[derive(Clone, Copy)]
+pub enum Entry<'a> {
+    Reserve,
+    Push(&'a [u8]),
+    Build(&'a [u8]),
+}
+
+impl Entry<'_> {
+    fn make<K: Kind>(
+        self,
+        builder: &mut ZeroBuilder,
+        buffer: &mut [u8],
+        kind: &K,
+    ) -> Result<usize, Refusal> {
+        match self {
+            Entry::Reserve => builder.reserve(buffer, kind),
+            Entry::Push(bytes) => builder.push(buffer, kind, bytes),
+            Entry::Build(sheet) => builder.build(buffer, kind, sheet),
+        }
+    }
+}
+
+#[derive(Clone, Copy)]
+pub enum Call<'a> {
+    // Of a sheet.
+    Scan(&'a [u8]),
+    Look(Look<'a>),
+    Entry(Entry<'a>),
+}
+
+impl<'a> Call<'a> {
+    // One on a sheet or an archive, if the words are of one.
+    pub(crate) fn on_bytes(words: Words<'a>) -> Result<Option<Call<'a>>, Unread> {
+        let ask = match words.word(0)? {
+            "scan" => return Ok(Some(Call::Scan(words.bytes))),
+            "shallow" => Ask::Shallow,
+            "deep" => Ask::Deep,
+            "get" => Ask::Get,
+            "copy" => Ask::Copy(words.number(4)?),
+            _ => return Ok(None),
+        };
+        let root = words.root()?;
+        Ok(Some(Call::Look(Look { root, ask })))
+    }
+
+    // One on the open builder.
+    pub(crate) fn on_builder(words: Words<'a>, desk: &Desk) -> Result<Option<Call<'a>>, Unread> {
+        let entry = match words.word(0)? {
+            "reserve" => Entry::Reserve,
+            "push" => Entry::Push(words.bytes),
+            "build" => Entry::Build(words.bytes),
+            _ => return Ok(None),
+        };
+        desk.opened()?;
+        Ok(Some(Call::Entry(entry)))
+    }
+
+    // Not put in line: the program would take twice as long to compile.
+    #[inline(never)]
+    fn make<K: Kind>(self, desk: &mut Desk, buffer: &mut [u8], kind: &K) -> Result<Said, Trouble> {
+        match self {
+            Call::Scan(sheet) => Ok(Said::Number(kind.scan(sheet, 0)?)),
+            Call::Look(look) => look.make(desk, kind),
+            Call::Entry(entry) => Ok(Said::Number(entry.make(desk.builder()?, buffer, kind)?)),
+        }
     }
 }
 
 // A call that waits for its kind, with what it is made on.
 #[derive(Drop)]
 pub struct Request<'a, 'b, 'c> {
-    pub call: &'a Call,
+    pub call: Call<'a>,
     pub desk: &'b mut Desk,
     pub buffer: &'c mut [u8],
 }
@@ -77,13 +147,17 @@ impl Use for Request<'_, '_, '_> {
     ghost tells = { λ _ _ _ _. ⊤ };
 
     fn with<K: Kind>(&mut self, kind: &K) -> Result<Said, Trouble> {
-        let call = self.call;
-        call.make(self.desk, self.buffer, kind)
+        self.call.make(self.desk, self.buffer, kind)
     }
 
     fn with_step<K: OneStep>(&mut self, kind: &K) -> Result<Said, Trouble> {
         match self.call {
-            Call::Get(root) => step(root, self.desk, kind),
+            Call::Look(
+                Look {
+                    root,
+                    ask: Ask::Get,
+                },
+            ) => found(get(kind, root.archive, root.place)?, self.desk),
             call => call.make(self.desk, self.buffer, kind),
         }
     }

@@ -1,6 +1,7 @@
 // The builder that lines open and use.
 use crate::said::Said;
 use crate::trouble::{Trouble, Unread};
+use crate::words::Words;
 use builder::ZeroBuilder;
 use std::alloc::{AllocError, Global};
 
@@ -25,8 +26,13 @@ impl Desk {
         vec![in self.heap; OLD; room]
     }
 
-    pub(crate) fn copied(&self, bytes: &[u8]) -> Result<Vec<u8>, AllocError> {
-        bytes.to_vec(self.heap)
+    // Two capital digits a byte; a minus sign where there are none.
+    pub(crate) fn hexadecimal(&self, bytes: &[u8]) -> Result<String, AllocError> {
+        if bytes.is_empty() {
+            "-".to_string(self.heap)
+        } else {
+            hex::encode_upper(self.heap, bytes)
+        }
     }
 
     // A builder over a new buffer.
@@ -37,8 +43,16 @@ impl Desk {
     }
 
     pub(crate) fn opened(&self) -> Result<(), Unread> {
-        self.builder.as_ref().ok_or(Unread::NoBuilder)?;
+        if self.builder.is_none() {
+            return Err(Unread::NoBuilder);
+        }
         Ok(())
+    }
+
+    // A number of a call on the open builder: that none is open is told first.
+    pub(crate) fn number(&self, words: Words, i: usize) -> Result<usize, Unread> {
+        self.opened()?;
+        words.number(i)
     }
 
     pub(crate) fn builder(&mut self) -> Result<&mut ZeroBuilder, Unread> {
@@ -48,7 +62,7 @@ impl Desk {
     pub(crate) fn finish(&mut self, buffer: &[u8]) -> Result<Said, Trouble> {
         let finished = self.builder.take().ok_or(Unread::NoBuilder)?.finish();
         let end = finished.length.min(buffer.len());
-        let archive = self.copied(&buffer[..end])?;
+        let archive = self.hexadecimal(&buffer[..end])?;
         Ok(Said::Archive(finished.length, finished.alignment, archive))
     }
 }

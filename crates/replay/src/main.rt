@@ -5,14 +5,16 @@ mod calls;
 mod desk;
 mod line;
 mod said;
+mod sample;
+mod task;
 mod trouble;
 mod words;
 
 use crate::desk::Desk;
-use crate::line::Line;
+use crate::line::Manner;
 use crate::said::Said;
 use crate::trouble::Trouble;
-use crate::words::Words;
+use crate::words::{Words, bytes};
 use std::alloc::Global;
 
 fn answer(
@@ -22,18 +24,10 @@ fn answer(
     buffer: &mut Vec<u8>,
 ) -> Result<Said, Trouble> {
     let words = line.split_whitespace().collect::<Vec<_>>(heap)?;
-    match Line::read(Words::new(heap, words.as_slice()), desk)? {
-        Line::New(room) => {
-            *buffer = desk.open(room)?;
-            Ok(Said::Nothing)
-        }
-        Line::Finish => desk.finish(buffer.as_slice()),
-        Line::Whole(task) => task.run(desk, buffer.as_mut_slice()),
-        Line::Short(task) => {
-            let end = buffer.len().saturating_sub(1);
-            task.run(desk, &mut buffer.as_mut_slice()[..end])
-        }
-    }
+    let (manner, words) = Manner::split(words.as_slice());
+    let bytes = bytes(heap, words)?;
+    let bytes = bytes.as_slice();
+    manner.answer(Words { words, bytes }, desk, buffer)
 }
 
 fn run(rt: &HostRuntime) -> anyhow::Result<()> {

@@ -14,23 +14,36 @@ fn hexadecimal(heap: Global, text: &str) -> Result<Vec<u8>, Trouble> {
     Ok(hex::decode(heap, text)?)
 }
 
-// The words of a line.
+// Which word of a call has its bytes.
+fn place_of_bytes(call: &str) -> Option<usize> {
+    match call {
+        "push_bytes" | "text" => Some(1),
+        "scan" | "word" | "write" => Some(2),
+        "build" | "push" => Some(3),
+        "deep" | "get" | "shallow" => Some(4),
+        "copy" => Some(5),
+        _ => None,
+    }
+}
+
+// The bytes of a call; none where it has none.
+pub(crate) fn bytes(heap: Global, words: &[&str]) -> Result<Vec<u8>, Trouble> {
+    let call = words.first().copied().ok_or(Unread::NoWord)?;
+    let Some(place) = place_of_bytes(call) else {
+        return Ok(Vec::new(heap));
+    };
+    let digits = words.get(place).copied().ok_or(Unread::NoWord)?;
+    hexadecimal(heap, digits)
+}
+
+// The words of a call, and what the digits of one of them stand for.
 #[derive(Clone, Copy)]
 pub struct Words<'a> {
-    heap: Global,
-    words: &'a [&'a str],
+    pub words: &'a [&'a str],
+    pub bytes: &'a [u8],
 }
 
 impl<'a> Words<'a> {
-    pub(crate) fn new(heap: Global, words: &'a [&'a str]) -> Words<'a> {
-        Words { heap, words }
-    }
-
-    // All but the first.
-    pub(crate) fn rest(self) -> Words<'a> {
-        Words::new(self.heap, self.words.get(1..).unwrap_or(&[]))
-    }
-
     pub(crate) fn word(self, i: usize) -> Result<&'a str, Unread> {
         self.words.get(i).copied().ok_or(Unread::NoWord)
     }
@@ -39,14 +52,10 @@ impl<'a> Words<'a> {
         self.word(i)?.parse::<usize>().map_err(|_| Unread::NoNumber)
     }
 
-    pub(crate) fn bytes(self, i: usize) -> Result<Vec<u8>, Trouble> {
-        hexadecimal(self.heap, self.word(i)?)
-    }
-
-    // An archive behind the place in it.
-    pub(crate) fn root(self, bytes: usize) -> Result<Root, Trouble> {
+    // An archive and the place in it.
+    pub(crate) fn root(self) -> Result<Root<'a>, Unread> {
         Ok(Root {
-            archive: self.bytes(bytes)?,
+            archive: self.bytes,
             place: self.number(3)?,
         })
     }

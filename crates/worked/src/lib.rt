@@ -1,4 +1,4 @@
-// The worked samples as a theorem, which `samples` tells of. A crate of its own, so that its must-fail edit checks no program.
+// The worked samples as a theorem, which `replay` tells of. A crate of its own, so that its must-fail edit checks no program.
 #![tactic(auto)]
 
 ghost use Rattle.std.specs.Prelude.{◌≡◌};
