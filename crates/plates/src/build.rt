@@ -1,4 +1,6 @@
 // An archive of a plate list, built in memory.
+use crate::input::read;
+use crate::name::Name;
 use crate::plate_list::PlateList;
 use crate::trouble::Trouble;
 use builder::Finished;
@@ -15,9 +17,10 @@ pub struct Built {
 }
 
 impl Built {
-    pub(crate) fn of_list(heap: Global, list: &[u8]) -> Result<Built, Trouble<'static>> {
-        let PlateList { count, sheets } = PlateList::read(heap, list)?;
-        let (archive, assembled) = assemble(heap, &sheets)?;
+    pub(crate) fn of_list<'a>(rt: &HostRuntime, list: Name<'a>) -> Result<Built, Trouble<'a>> {
+        let bytes = read(rt, list)?;
+        let PlateList { count, sheets } = PlateList::read(rt.alloc(), bytes.as_slice())?;
+        let (archive, assembled) = assemble(rt.alloc(), &sheets)?;
         Ok(Built {
             archive,
             sheets,
@@ -35,15 +38,9 @@ impl Built {
             parts,
         } = self.assembled.places;
         let Finished { length, alignment } = self.assembled.finished;
-        let mut text = String::new(heap);
-        writeln!(
-            text,
-            "built {count} plates: numbers at {numbers}, casts at {casts}, parts at {parts}; {length} bytes, alignment {alignment}"
-        )?;
-        writeln!(
-            text,
-            "read again, checked deeply and copied out: {count} plates, equal to what was built"
-        )?;
-        Ok(text)
+        format!(in heap;
+            "built {count} plates: numbers at {numbers}, casts at {casts}, parts at {parts}; {length} bytes, alignment {alignment}\n\
+            read again, checked deeply and copied out: {count} plates, equal to what was built\n"
+        )
     }
 }

@@ -7,13 +7,13 @@ use crate::input::read;
 use crate::name::Name;
 use crate::round::round;
 use crate::show::{plate_lines, word_lines};
-use crate::trouble::{NoAnswer, Trouble};
+use crate::trouble::{Misuse, NoAnswer, Trouble};
 use crate::whole::{put, refuse_place};
 use plate_archive::{check, sheets};
 use std::alloc::{AllocError, Global};
 
 // What an archive is asked for.
-#[derive(Clone, Copy)]
+#[derive(Drop)]
 pub enum Question {
     Check,
     List,
@@ -21,7 +21,7 @@ pub enum Question {
     Copy,
 }
 
-#[derive(Clone, Copy)]
+#[derive(Drop)]
 pub enum Command<'a> {
     Round,
     Build { list: Name<'a>, path: &'a str },
@@ -122,13 +122,21 @@ fn ask<'a>(rt: &HostRuntime, question: Question, name: Name<'a>) -> Result<Vec<u
         .map_err(|reason| Trouble::Archive { name, reason })
 }
 
-fn build<'a>(rt: &HostRuntime, list: Name<'a>, path: &'a str) -> Result<Vec<u8>, Trouble<'a>> {
-    refuse_place(rt, list, path)?;
-    let built = Built::of_list(rt.alloc(), read(rt, list)?.as_slice())?;
-    put(rt, path, &built)?;
+fn put_and_report<'a>(
+    rt: &HostRuntime,
+    path: &'a str,
+    built: &Built,
+) -> Result<Vec<u8>, Trouble<'a>> {
+    put(rt, path, built)?;
     let mut text = built.report(rt.alloc())?;
     writeln!(text, "written to {path}")?;
     Ok(text.into_bytes())
+}
+
+fn build<'a>(rt: &HostRuntime, list: Name<'a>, path: &'a str) -> Result<Vec<u8>, Trouble<'a>> {
+    refuse_place(rt, list, path)?;
+    let built = Built::of_list(rt, list)?;
+    put_and_report(rt, path, &built)
 }
 
 fn help(heap: Global) -> Result<Vec<u8>, AllocError> {
@@ -141,18 +149,19 @@ fn help(heap: Global) -> Result<Vec<u8>, AllocError> {
 }
 
 // Words that are no command, or another number of them than it takes.
-fn misused(name: &str) -> Trouble<'_> {
+fn misused(name: &str) -> Misuse<'_> {
     match USAGES.iter().find(|usage| usage.name == name) {
-        Some(usage) => Trouble::Usage(usage.words),
-        None => Trouble::NoCommand(name),
+        Some(usage) => Misuse::Usage(usage.words),
+        None => Misuse::NoCommand(name),
     }
 }
 
 impl<'a> Command<'a> {
     // Of the words of the command line. A `TryFrom` would say it under another name.
-    pub(crate) fn of(words: &[&'a str]) -> Result<Command<'a>, Trouble<'a>> {
+    pub(crate) fn of(words: &[&'a str]) -> Result<Command<'a>, Misuse<'a>> {
         match *words {
             [] => Ok(Command::Round),
+            ["build", _, "-"] => Err(Misuse::ToStandardOutput),
             ["build", list, path] => Ok(Command::Build {
                 list: Name::of(list),
                 path,

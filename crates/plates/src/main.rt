@@ -12,7 +12,7 @@ mod trouble;
 mod whole;
 
 use crate::command::Command;
-use crate::trouble::Trouble;
+use crate::trouble::{Misuse, Trouble};
 use std::io::Write;
 use std::process::ExitCode;
 use std::{env, io};
@@ -22,10 +22,14 @@ fn words(rt: &HostRuntime) -> io::Result<Vec<String>> {
     Ok(env::args(rt)?.skip(1).collect(rt.alloc())?)
 }
 
+fn answer<'a>(rt: &HostRuntime, words: &'a [String]) -> Result<Vec<u8>, Trouble<'a>> {
+    let words: Vec<_> = words.iter().map(String::as_str).collect(rt.alloc())?;
+    Command::of(words.as_slice())?.run(rt)
+}
+
 // All of standard output is written at once, when nothing can be refused any more.
 fn run<'a>(rt: &HostRuntime, words: &'a [String]) -> Result<(), Trouble<'a>> {
-    let words: Vec<_> = words.iter().map(String::as_str).collect(rt.alloc())?;
-    let output = Command::of(words.as_slice())?.run(rt)?;
+    let output = answer(rt, words)?;
     rt.stdout()
         .write_all(output.as_slice())
         .map_err(|error| Trouble::Output(error))
@@ -45,6 +49,6 @@ fn ended(rt: &HostRuntime, done: Result<(), Trouble>) -> ExitCode {
 fn main(rt: HostRuntime) -> ExitCode {
     match words(&rt) {
         Ok(words) => ended(&rt, run(&rt, words.as_slice())),
-        Err(error) => ended(&rt, Err(Trouble::Words(error))),
+        Err(error) => ended(&rt, Err(Misuse::Words(error).into())),
     }
 }

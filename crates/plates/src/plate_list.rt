@@ -16,7 +16,7 @@ pub enum ListFault {
     #[error("the list is refused: {0}")]
     Refused(#[from] ListError),
     #[error("out of memory")]
-    Memory(#[from(alloc)] AllocError),
+    Memory(#[from] AllocError),
 }
 
 // How many plates a list has, and the sheets of their numbers, casts and parts.
@@ -44,14 +44,26 @@ fn plates_of(heap: Global, list: &[u8]) -> Result<Vec<Plate<'_>>, ListFault> {
         .try_collect(heap)
 }
 
-fn sheets_of(heap: Global, plates: Vec<Plate>) -> Result<Sheets, ListError> {
+fn sheet_of_numbers(heap: Global, plates: &[Plate]) -> Result<Vec<u8>, ListError> {
     let numbers: Vec<_> = plates.iter().map(|plate| plate.number).collect(heap)?;
+    sheet_of_texts(heap, numbers.as_slice())
+}
+
+fn sheet_of_casts(heap: Global, plates: &[Plate]) -> Result<Vec<u8>, ListError> {
     let casts: Vec<_> = plates.iter().map(|plate| plate.cast).collect(heap)?;
+    sheet_of_texts(heap, casts.as_slice())
+}
+
+fn sheet_of_parts(heap: Global, plates: Vec<Plate>) -> Result<Vec<u8>, ListError> {
     let parts: Vec<_> = plates.into_iter().map(|plate| plate.parts).collect(heap)?;
+    sheet_of_lists(heap, parts.as_slice())
+}
+
+fn sheets_of(heap: Global, plates: Vec<Plate>) -> Result<Sheets, ListError> {
     Ok(PerList {
-        numbers: sheet_of_texts(heap, numbers.as_slice())?,
-        casts: sheet_of_texts(heap, casts.as_slice())?,
-        parts: sheet_of_lists(heap, parts.as_slice())?,
+        numbers: sheet_of_numbers(heap, plates.as_slice())?,
+        casts: sheet_of_casts(heap, plates.as_slice())?,
+        parts: sheet_of_parts(heap, plates)?,
     })
 }
 

@@ -1,6 +1,5 @@
 // The whole round in memory, on the list that standard input has; at its end a byte is damaged.
 use crate::build::Built;
-use crate::input::read;
 use crate::name::Name;
 use crate::show::{plate_lines, word_lines};
 use crate::trouble::{NoAnswer, Trouble};
@@ -8,26 +7,34 @@ use plate_archive::{check, verify};
 use std::alloc::{AllocError, Global};
 
 // Every bit of the last byte turned: whether the checks see it depends on what it was, and they say.
-fn damaged(heap: Global, archive: &mut [u8]) -> Result<String, AllocError> {
+fn push_damaged(text: &mut String, archive: &mut [u8]) -> Result<(), AllocError> {
     let place = archive.len().saturating_sub(1);
     if let Some(byte) = archive.get_mut(place) {
         *byte ^= 0xff;
     }
     match check(archive) {
-        Ok(_) => format!(in heap; "with byte {place} damaged it is still sound\n"),
-        Err(fault) => format!(in heap; "with byte {place} damaged it {fault}\n"),
+        Ok(_) => writeln!(text, "with byte {place} damaged it is still sound"),
+        Err(fault) => writeln!(text, "with byte {place} damaged it {fault}"),
     }
 }
 
-pub(crate) fn round(rt: &HostRuntime) -> Result<Vec<u8>, Trouble<'static>> {
-    let heap = rt.alloc();
-    let list = read(rt, Name::StandardInput)?;
-    let mut built = Built::of_list(heap, list.as_slice())?;
+fn push_lines(text: &mut String, heap: Global, archive: &[u8]) -> Result<(), NoAnswer> {
+    text.push_str(plate_lines(heap, archive)?.as_str())?;
+    text.push_str("the sheet of the plate numbers, read back word by word:\n")?;
+    text.push_str(word_lines(heap, archive)?.as_str())?;
+    Ok(())
+}
+
+// From the archive on: verified, shown, damaged.
+fn go_round(heap: Global, built: &mut Built) -> Result<String, Trouble<'static>> {
     verify(heap, built.archive.as_slice(), &built.sheets).map_err(NoAnswer::Fault)?;
     let mut text = built.report(heap)?;
-    text.push_str(plate_lines(heap, built.archive.as_slice())?.as_str())?;
-    text.push_str("the sheet of the plate numbers, read back word by word:\n")?;
-    text.push_str(word_lines(heap, built.archive.as_slice())?.as_str())?;
-    text.push_str(damaged(heap, built.archive.as_mut_slice())?.as_str())?;
-    Ok(text.into_bytes())
+    push_lines(&mut text, heap, built.archive.as_slice())?;
+    push_damaged(&mut text, built.archive.as_mut_slice())?;
+    Ok(text)
+}
+
+pub(crate) fn round(rt: &HostRuntime) -> Result<Vec<u8>, Trouble<'static>> {
+    let mut built = Built::of_list(rt, Name::StandardInput)?;
+    Ok(go_round(rt.alloc(), &mut built)?.into_bytes())
 }

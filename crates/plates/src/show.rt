@@ -3,7 +3,7 @@ ghost use Rattle.std.specs.Prelude.{IfOk};
 ghost use Rattle.plate_archive.specs.Archives.{check as check_by, IsSound};
 
 use crate::trouble::NoAnswer;
-use plate_archive::{Casts, Fault, Items, Numbers, Parts, check, copy, text_at, texts_at};
+use plate_archive::{Casts, Fault, Items, Numbers, Parts, PerList, check, copy, text_at, texts_at};
 use plate_lists::list_words;
 use refusal::{Cause, Refusal};
 use sheet::Word;
@@ -29,25 +29,43 @@ fn push_parts(text: &mut String, archive: &[u8], place: usize) -> Result<(), NoA
         text.push_str("  nothing cut yet")?;
     }
     for (index, head) in heads(parts).enumerate() {
-        text.push_str(if index == 0 { "  cut: " } else { ", " })?;
-        text.push_str(text_at(archive, head).map_err(Fault::on::<Parts>)?)?;
+        let part = text_at(archive, head).map_err(Fault::on::<Parts>)?;
+        let before = if index == 0 { "  cut: " } else { ", " };
+        write!(text, "{before}{part}")?;
     }
     Ok(())
 }
 
-// A line for each plate: its index, its number, its cast, and the parts that were cut from it.
+// The line of a plate: its index, its number, its cast, and the parts that were cut from it.
+fn push_plate(
+    text: &mut String,
+    archive: &[u8],
+    index: usize,
+    heads: PerList<usize>,
+) -> Result<(), NoAnswer> {
+    let number = text_at(archive, heads.numbers).map_err(Fault::on::<Numbers>)?;
+    let cast = text_at(archive, heads.casts).map_err(Fault::on::<Casts>)?;
+    write!(text, "{index:>5}  {number}  cast {cast}")?;
+    push_parts(text, archive, heads.parts)?;
+    text.push_str("\n")?;
+    Ok(())
+}
+
+// A line for each plate.
 pub(crate) fn plate_lines(heap: Global, archive: &[u8]) -> Result<String, NoAnswer>
     ensures { IfOk result (λ _. IsSound (check_by archive.now)) }
 {
     let lists = check(archive)?;
     let mut text = String::new(heap);
     let numbers_and_casts = heads(lists.numbers).zip(heads(lists.casts));
-    for (index, ((number, cast), parts)) in numbers_and_casts.zip(heads(lists.parts)).enumerate() {
-        let number = text_at(archive, number).map_err(Fault::on::<Numbers>)?;
-        let cast = text_at(archive, cast).map_err(Fault::on::<Casts>)?;
-        write!(text, "{index:>5}  {number}  cast {cast}")?;
-        push_parts(&mut text, archive, parts)?;
-        text.push_str("\n")?;
+    let plates = numbers_and_casts.zip(heads(lists.parts));
+    for (index, ((numbers, casts), parts)) in plates.enumerate() {
+        let heads = PerList {
+            numbers,
+            casts,
+            parts,
+        };
+        push_plate(&mut text, archive, index, heads)?;
     }
     Ok(text)
 }
@@ -55,9 +73,10 @@ pub(crate) fn plate_lines(heap: Global, archive: &[u8]) -> Result<String, NoAnsw
 fn push_word(text: &mut String, index: usize, word: Word<'_>) -> Result<(), NoAnswer> {
     if let Word::Text { place, bytes } = word {
         let length = bytes.len();
-        let number = from_utf8(bytes)
-            .map_err(|_| Refusal::at(Cause::SheetNotText, place))
-            .map_err(Fault::on::<Numbers>)?;
+        let number = from_utf8(bytes).map_err(|_| Fault::on::<Numbers>(Refusal::at(
+            Cause::SheetNotText,
+            place,
+        )))?;
         writeln!(
             text,
             "{index:>5}  place {place:>6}  length {length:>4}  {number}"
@@ -66,33 +85,42 @@ fn push_word(text: &mut String, index: usize, word: Word<'_>) -> Result<(), NoAn
     Ok(())
 }
 
+fn length(word: &Word) -> Option<usize> {
+    match word {
+        Word::Text { bytes, .. } => Some(bytes.len()),
+        _ => None,
+    }
+}
+
 fn push_totals(text: &mut String, words: &[Word], sheet_length: usize) -> Result<(), AllocError> {
-    let lengths = || {
-        words.iter().filter_map(|word| match word {
-            Word::Text { bytes, .. } => Some(bytes.len()),
-            _ => None,
-        })
-    };
     let count = words.len();
-    let empty = lengths().filter(|length| *length == 0).count();
-    let bytes_in_all = lengths().fold(0, usize::saturating_add);
+    let empty = words.iter().filter(|word| length(word) == Some(0)).count();
+    let bytes_in_all = words
+        .iter()
+        .filter_map(length)
+        .fold(0, usize::saturating_add);
     writeln!(
         text,
         "{count} plates, {empty} of them without a number; {bytes_in_all} bytes of text in a sheet of {sheet_length} bytes"
     )
 }
 
-// The sheet of the plate numbers as it is copied out, read back word by word: each number with its place in the sheet, and then totals.
-pub(crate) fn word_lines(heap: Global, archive: &[u8]) -> Result<String, NoAnswer>
-    ensures { IfOk result (λ _. IsSound (check_by archive.now)) }
-{
-    check(archive)?;
-    let sheet = copy::<Numbers>(heap, archive)?;
-    let words = list_words(heap, sheet.as_slice())?;
+// Each number with its place in the sheet, and then totals.
+fn sheet_lines(heap: Global, sheet: &[u8]) -> Result<String, NoAnswer> {
+    let words = list_words(heap, sheet)?;
     let mut text = String::new(heap);
     for (index, word) in words.iter().enumerate() {
         push_word(&mut text, index, *word)?;
     }
     push_totals(&mut text, words.as_slice(), sheet.len())?;
     Ok(text)
+}
+
+// The sheet of the plate numbers as it is copied out, read back word by word.
+pub(crate) fn word_lines(heap: Global, archive: &[u8]) -> Result<String, NoAnswer>
+    ensures { IfOk result (λ _. IsSound (check_by archive.now)) }
+{
+    check(archive)?;
+    let sheet = copy::<Numbers>(heap, archive)?;
+    sheet_lines(heap, sheet.as_slice())
 }

@@ -2,13 +2,13 @@
 use crate::build::Built;
 use crate::input::read;
 use crate::name::Name;
-use crate::trouble::Trouble;
+use crate::trouble::{FileError, Trouble, Unfit, tried};
 use plate_archive::{Sheets, verify};
 use std::alloc::AllocError;
-use std::fs;
 use std::fs::{File, Metadata};
 use std::io::{ErrorKind, Write};
 use std::os::unix::fs::MetadataExt;
+use std::{fs, io};
 
 // Whether a list stands in the file that is there, by whichever names.
 fn holds(rt: &HostRuntime, there: &Metadata, list: Name) -> Result<bool, AllocError> {
@@ -22,32 +22,36 @@ pub(crate) fn refuse_place<'a>(
     rt: &HostRuntime,
     list: Name<'a>,
     path: &'a str,
-) -> Result<(), Trouble<'a>> {
+) -> Result<(), FileError<'a>> {
     let name = Name::Path(path);
-    if path == "-" {
-        return Err(Trouble::ToStandardOutput);
-    }
-    match fs::metadata(rt, path) {
-        Ok(there) if there.is_dir() => Err(Trouble::Directory(name)),
-        Ok(there) if !there.is_file() => Err(Trouble::NoFile(name)),
-        Ok(there) if holds(rt, &there, list)? => Err(Trouble::OneFile(name)),
+    let Ok(there) = fs::metadata(rt, path) else {
         // What cannot be looked at is no file yet, or is told of where it is written.
-        _ => Ok(()),
+        return Ok(());
+    };
+    if there.is_dir() {
+        Err(FileError::Unfit(name, Unfit::Directory))
+    } else if !there.is_file() {
+        Err(FileError::Unfit(name, Unfit::NoFile))
+    } else if holds(rt, &there, list)? {
+        Err(FileError::Unfit(name, Unfit::TheList))
+    } else {
+        Ok(())
     }
 }
 
 // A file that was there belongs to another build, or is the list: it stays as it is.
-fn create<'a>(rt: &HostRuntime, name: Name<'a>, path: &str) -> Result<File, Trouble<'a>> {
-    File::create_new(rt, path).map_err(|error| match error.kind() {
-        ErrorKind::AlreadyExists => Trouble::Taken(name),
-        _ => Trouble::Write { name, error },
-    })
+fn create<'a>(rt: &HostRuntime, name: Name<'a>, path: &str) -> Result<File, FileError<'a>> {
+    match File::create_new(rt, path) {
+        Err(error) if error.kind() == ErrorKind::AlreadyExists => {
+            Err(FileError::Unfit(name, Unfit::Taken))
+        }
+        created => tried("write", name, created),
+    }
 }
 
-fn fill<'a>(mut file: File, name: Name<'a>, bytes: &[u8]) -> Result<(), Trouble<'a>> {
-    file.write_all(bytes)
-        .and_then(|()| file.sync_all())
-        .map_err(|error| Trouble::Write { name, error })
+fn fill(mut file: File, bytes: &[u8]) -> io::Result<()> {
+    file.write_all(bytes)?;
+    file.sync_all()
 }
 
 fn verify_file<'a>(rt: &HostRuntime, name: Name<'a>, sheets: &Sheets) -> Result<(), Trouble<'a>> {
@@ -58,20 +62,25 @@ fn verify_file<'a>(rt: &HostRuntime, name: Name<'a>, sheets: &Sheets) -> Result<
     })
 }
 
+fn rename<'a>(rt: &HostRuntime, path: &'a str) -> Result<(), FileError<'a>> {
+    let (from, to) = (Name::Beside(path), Name::Path(path));
+    fs::rename(rt, from.path(rt.alloc())?, path).map_err(|error| FileError::Rename {
+        from,
+        to,
+        error,
+    })
+}
+
 fn fill_and_rename<'a>(
     rt: &HostRuntime,
     file: File,
     path: &'a str,
     built: &Built,
 ) -> Result<(), Trouble<'a>> {
-    let (from, to) = (Name::Beside(path), Name::Path(path));
-    fill(file, from, built.archive.as_slice())?;
-    verify_file(rt, from, &built.sheets)?;
-    fs::rename(rt, from.path(rt.alloc())?, path).map_err(|error| Trouble::Rename {
-        from,
-        to,
-        error,
-    })
+    let beside = Name::Beside(path);
+    tried("write", beside, fill(file, built.archive.as_slice()))?;
+    verify_file(rt, beside, &built.sheets)?;
+    Ok(rename(rt, path)?)
 }
 
 // Written beside the file, under another name, read again and verified; then it gets its name. On any trouble it is taken away.
