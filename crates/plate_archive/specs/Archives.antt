@@ -119,9 +119,13 @@ sheets a = then (check a) (λ _. each (λ w. sheet_of w a))
 abbrev pub same : Which → List ℕ → List ℕ → Judged (Unit {0})
 same w s b = cond (bytes_eq s b) (sound tt) (wrong (altered w))
 
+-- that each sheet is the one that its list was built from
+abbrev pub all_same : Three (List ℕ) → Three (List ℕ) → Judged (Unit {0})
+all_same s b = then (same Numbers s.numbers b.numbers) (λ _. then (same Casts s.casts b.casts) (λ _. same Parts s.parts b.parts))
+
 -- that an archive is sound, and its sheets are those that it was built from
 abbrev pub verified : Three (List ℕ) → List ℕ → Judged (Unit {0})
-verified b a = then (sheets a) (λ s. then (same Numbers s.numbers b.numbers) (λ _. then (same Casts s.casts b.casts) (λ _. same Parts s.parts b.parts)))
+verified b a = then (sheets a) (λ s. all_same s b)
 
 -- each of texts is read: the heads of texts, as of slices, are 8 bytes long
 abbrev pub AllTexts : List ℕ → Span → Type 0
