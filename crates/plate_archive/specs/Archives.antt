@@ -51,15 +51,15 @@ abbrev pub text_of : List ℕ → ℕ → Answer (List ℕ)
 text_of a p = both (rooted text a p) (λ _. both (text_at little a p) (λ x. good x.bytes))
 
 -- where a list is
-abbrev pub place_of : Which → List ℕ → Answer ℕ
+unfoldable pub place_of : Which → List ℕ → Answer ℕ
 place_of w a = target_at (list w) a (root_place w)
 
 -- the items of a list, once all that is read from its pointer was found without a fault
-abbrev pub items_of : Which → List ℕ → Answer Span
+unfoldable pub items_of : Which → List ℕ → Answer Span
 items_of w a = both (is_valid_deep (root w) a (root_place w)) (λ _. both (place_of w a) (items_at (item w) a))
 
 -- the sheet of a list
-abbrev pub sheet_of : Which → List ℕ → Answer (List ℕ)
+unfoldable pub sheet_of : Which → List ℕ → Answer (List ℕ)
 sheet_of w a = both (place_of w a) (sheet_at (list w) a)
 
 -- something of each of the three lists

@@ -35,6 +35,7 @@ fn copy_from<R: Root>(heap: Global, archive: &[u8], place: usize) -> Result<Vec<
 }
 
 // The sheet of one list.
+#[tactic(auto, unfolding(crate::specs::Archives::sheet_of))]
 pub fn copy<R: Root>(heap: Global, archive: &[u8]) -> Result<Vec<u8>, Fault>
     ensures { Says (judged vec_items result) (on R.which (sheet_of R.which archive.now)) }
 {

@@ -18,6 +18,7 @@ pub struct Items {
 }
 
 // Where a list is.
+#[tactic(auto, unfolding(crate::specs::Archives::place_of))]
 pub(crate) fn place<R: Root>(archive: &[u8]) -> Result<usize, Refusal>
     ensures { told result ≡ place_of R.which archive.now }
 {
@@ -40,6 +41,7 @@ fn items_at<K: Kind + Drop>(item: K, archive: &[u8], place: usize) -> Result<Ite
 }
 
 // Reads all of one list, and tells its items.
+#[tactic(auto, unfolding(crate::specs::Archives::items_of))]
 pub(crate) fn checked<R: Root>(archive: &[u8]) -> Result<Items, Refusal>
     ensures { told_by span_of result ≡ items_of R.which archive.now }
 {
