@@ -1,13 +1,12 @@
 -- What calls one behind another leave, by what each of them leaves. Assumes nothing.
-use Rattle.std.proofs.Common.{◌≡◌, ℕ, ◌-◌, List, ap, ◌∙◌}
+use Rattle.std.proofs.Common.{◌≡◌, ℕ, List, ap, ◌∙◌}
 use Rattle.format.specs.Answers.{Fault, good, bad}
-use Rattle.format.specs.Orders.{little}
 use Rattle.format.specs.Meaning.{Meaning}
 use Rattle.format.specs.Builder as builders
 use Rattle.format.specs.Builder.{Builder, Call, After, Change, write, change, done, step}
 use Rattle.plate_archive.specs.declared.roots.Which.{Which}
 use Rattle.plate_archive.specs.declared.roots.Which.TheVariants.{Numbers, Casts, Parts}
-use Rattle.plate_archive.specs.Archives.{list, root_place, Three}
+use Rattle.plate_archive.specs.Archives.{list, Three}
 use Rattle.plate_archive.specs.Assembly.{Left, Run, call, tell, refuse, by, then, lead, build, build_lists}
 
 -- behind a first that answers a, or is refused
@@ -36,17 +35,6 @@ module _ (w : Which) (v : List ℕ) (m : Meaning) (is : m ≡ list w) (b : Build
 
   pub list_built : (p : ℕ) → record { answer = good p; builder = c; buffer = s } ≡ step (builders.build m v) b buf → (x : Left ℕ) → x ≡ lead w p c s → x ≡ build w v b buf
   list_built p h x k = k ∙ goes_on (call (builders.build (list w) v)) (lead w) b buf c s p (accepted (builders.build (list w) v) b buf c s p (listed _ h))
-
--- the distance of p from the pointer of a list, by the place and the bytes that are written
-module _ (w : Which) (p : ℕ) (c : Builder) (s : List ℕ) (q : ℕ) (at : q ≡ root_place w) (bytes : List ℕ) (n : ℕ) (distance : n ≡ p - q) (are : bytes ≡ little.lay 4 n) (d : Builder) (t : List ℕ) where
-  written : (x : After) → x ≡ step (write q bytes) c s → x ≡ step (write (root_place w) (little.lay 4 (p - root_place w))) c s
-  written x k = k ∙ ap (λ z. step (write q z) c s) (are ∙ ap (little.lay 4) distance) ∙ ap (λ z. step (write z (little.lay 4 (p - z))) c s) at
-
-  pub lead_refused : (e : Fault) → record { answer = bad e; builder = d; buffer = t } ≡ step (write q bytes) c s → refuse e d t ≡ lead w p c s
-  lead_refused e k = stops (call (write (root_place w) (little.lay 4 (p - root_place w)))) (λ _. tell p) c s d t e (refused (write (root_place w) (little.lay 4 (p - root_place w))) c s d t e (written _ k))
-
-  pub led : (o : ℕ) → record { answer = good o; builder = d; buffer = t } ≡ step (write q bytes) c s → tell p d t ≡ lead w p c s
-  led o k = goes_on (call (write (root_place w) (little.lay 4 (p - root_place w)))) (λ _. tell p) c s d t o (accepted (write (root_place w) (little.lay 4 (p - root_place w))) c s d t o (written _ k))
 
 -- the three lists
 module _ (x : Three (List ℕ)) where
