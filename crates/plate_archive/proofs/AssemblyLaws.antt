@@ -1,14 +1,13 @@
 -- What calls one behind another leave, by what each of them leaves. Assumes nothing.
-use Rattle.std.proofs.Common.{◌≡◌, ℕ, ◌-◌, List, ap, ◌∙◌}
+use Rattle.std.proofs.Common.{◌≡◌, ℕ, List, ap, ◌∙◌}
 use Rattle.format.specs.Answers.{Answer, Fault, good, bad}
-use Rattle.format.specs.Orders.{little}
 use Rattle.format.specs.Meaning.{Meaning}
 use Rattle.format.specs.Builder as builders
-use Rattle.format.specs.Builder.{Builder, After, write, step}
+use Rattle.format.specs.Builder.{Builder, After, step}
 use Rattle.plate_archive.specs.declared.roots.Which.{Which}
 use Rattle.plate_archive.specs.declared.roots.Which.TheVariants.{Numbers, Casts, Parts}
-use Rattle.plate_archive.specs.Archives.{list, root_place, Three}
-use Rattle.plate_archive.specs.Assembly.{Run, tell, refuse, by, then, build, build_lists}
+use Rattle.plate_archive.specs.Archives.{list, Three}
+use Rattle.plate_archive.specs.Assembly.{Run, tell, refuse, by, then, lead, build, build_lists}
 
 -- behind a first that answers a, or is refused
 module _ {A B : Type 0} (first : Run A) (next : A → Run B) (b : Builder) (buf : List ℕ) (c : Builder) (s : List ℕ) where
@@ -26,20 +25,8 @@ module _ (w : Which) (v : List ℕ) (m : Meaning) (is : m ≡ list w) (b : Build
   pub list_refused : (e : Fault) → record { answer = bad e; builder = c; buffer = s } ≡ step (builders.build m v) b buf → refuse e c s ≡ build w v b buf
   list_refused e h = stops (step (builders.build (list w) v)) _ b buf c s e (listed _ h)
 
-  -- built at p, and then bytes are written at q
-  module _ (p : ℕ) (h : record { answer = good p; builder = c; buffer = s } ≡ step (builders.build m v) b buf) (q : ℕ) (at : q ≡ root_place w) where
-    module _ (bytes : List ℕ) (n : ℕ) (distance : n ≡ p - q) (are : bytes ≡ little.lay 4 n) (d : Builder) (t : List ℕ) where
-      written : (x : After (Answer ℕ)) → x ≡ step (write q bytes) c s → x ≡ step (write (root_place w) (little.lay 4 (p - root_place w))) c s
-      written x k = k ∙ ap (λ z. step (write q z) c s) (are ∙ ap (little.lay 4) distance) ∙ ap (λ z. step (write z (little.lay 4 (p - z))) c s) at
-
-      behind : then (step (write (root_place w) (little.lay 4 (p - root_place w)))) (λ _. tell p) c s ≡ build w v b buf
-      behind = goes_on (step (builders.build (list w) v)) (λ p. then (step (write (root_place w) (little.lay 4 (p - root_place w)))) (λ _. tell p)) b buf c s p (listed _ h)
-
-      pub pointer_refused : (e : Fault) → record { answer = bad e; builder = d; buffer = t } ≡ step (write q bytes) c s → refuse e d t ≡ build w v b buf
-      pointer_refused e k = stops (step (write (root_place w) (little.lay 4 (p - root_place w)))) (λ _. tell p) c s d t e (written _ k) ∙ behind
-
-      pub list_built : (o : ℕ) → record { answer = good o; builder = d; buffer = t } ≡ step (write q bytes) c s → tell p d t ≡ build w v b buf
-      list_built o k = goes_on (step (write (root_place w) (little.lay 4 (p - root_place w)))) (λ _. tell p) c s d t o (written _ k) ∙ behind
+  pub list_built : (p : ℕ) → record { answer = good p; builder = c; buffer = s } ≡ step (builders.build m v) b buf → (x : After (Answer ℕ)) → x ≡ lead w p c s → x ≡ build w v b buf
+  list_built p h x k = k ∙ goes_on (step (builders.build (list w) v)) (lead w) b buf c s p (listed _ h)
 
 -- the three lists
 module _ (x : Three (List ℕ)) where

@@ -115,6 +115,7 @@ record Read (w : Which) (a : List ℕ) (s : Span) : Type 0 where
   sheet : (l : List ℕ) × (sheet_of w a ≡ good l)
 
 list_read : (w : Which) (a : List ℕ) (s : Span) → items_of w a ≡ good s → Read w a s
+unfolding items_of place_of sheet_of
 list_read w a s h =
     let deep = both_parts (is_valid_deep (root w) a (root_place w)) (λ _. both (place_of w a) (items_at (item w) a)) s h in
     let steps = both_parts (place_of w a) (items_at (item w) a) s deep.1.1 in

@@ -51,15 +51,15 @@ abbrev pub text_of : List ℕ → ℕ → Answer (List ℕ)
 text_of a p = both (rooted text a p) (λ _. both (text_at little a p) (λ x. good x.bytes))
 
 -- where a list is
-abbrev pub place_of : Which → List ℕ → Answer ℕ
+unfoldable pub place_of : Which → List ℕ → Answer ℕ
 place_of w a = target_at (list w) a (root_place w)
 
 -- the items of a list, once all that is read from its pointer was found without a fault
-abbrev pub items_of : Which → List ℕ → Answer Span
+unfoldable pub items_of : Which → List ℕ → Answer Span
 items_of w a = both (is_valid_deep (root w) a (root_place w)) (λ _. both (place_of w a) (items_at (item w) a))
 
 -- the sheet of a list
-abbrev pub sheet_of : Which → List ℕ → Answer (List ℕ)
+unfoldable pub sheet_of : Which → List ℕ → Answer (List ℕ)
 sheet_of w a = both (place_of w a) (sheet_at (list w) a)
 
 -- something of each of the three lists
@@ -119,9 +119,13 @@ sheets a = then (check a) (λ _. each (λ w. sheet_of w a))
 abbrev pub same : Which → List ℕ → List ℕ → Judged (Unit {0})
 same w s b = cond (bytes_eq s b) (sound tt) (wrong (altered w))
 
+-- that each sheet is the one that its list was built from
+abbrev pub all_same : Three (List ℕ) → Three (List ℕ) → Judged (Unit {0})
+all_same s b = then (same Numbers s.numbers b.numbers) (λ _. then (same Casts s.casts b.casts) (λ _. same Parts s.parts b.parts))
+
 -- that an archive is sound, and its sheets are those that it was built from
 abbrev pub verified : Three (List ℕ) → List ℕ → Judged (Unit {0})
-verified b a = then (sheets a) (λ s. then (same Numbers s.numbers b.numbers) (λ _. then (same Casts s.casts b.casts) (λ _. same Parts s.parts b.parts)))
+verified b a = then (sheets a) (λ s. all_same s b)
 
 -- each of texts is read: the heads of texts, as of slices, are 8 bytes long
 abbrev pub AllTexts : List ℕ → Span → Type 0

@@ -32,9 +32,13 @@ then first next b buf = let x = first b buf in by next x.answer x.builder x.buff
 abbrev pub reserve_pointers : Run ℕ
 reserve_pointers = then (step (reserve (root Numbers))) (λ _. then (step (reserve (root Casts))) (λ _. step (reserve (root Parts))))
 
--- the list of a sheet behind what stands, whose place is told; its distance from its pointer is written there
+-- the distance of a place from the pointer of a list is written there; the place is told
+abbrev pub lead : Which → ℕ → Run ℕ
+lead w p = then (step (write (root_place w) (little.lay 4 (p - root_place w)))) (λ _. tell p)
+
+-- the list of a sheet behind what stands, to which its pointer leads
 abbrev pub build : Which → List ℕ → Run ℕ
-build w sheet = then (step (builders.build (list w) sheet)) (λ p. then (step (write (root_place w) (little.lay 4 (p - root_place w)))) (λ _. tell p))
+build w sheet = then (step (builders.build (list w) sheet)) (lead w)
 
 -- the three lists in order, and where they are
 abbrev pub build_lists : Three (List ℕ) → Run (Three ℕ)

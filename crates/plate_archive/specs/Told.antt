@@ -4,6 +4,7 @@ use Rattle.std.specs.Global.{Vec}
 use Rattle.format.specs.Answers as answers
 use Rattle.format.specs.Answers.{good, bad}
 use Rattle.format.specs.Links.{Span}
+use Rattle.format.specs.Archive.{Found, found_items}
 use Rattle.format.specs.Builder.{After}
 use Rattle.refusal.specs.declared.refusal.Refusal.{Refusal}
 use Rattle.refusal.specs.Told.{fault_of, told_by}
@@ -21,6 +22,11 @@ use Rattle.plate_archive.specs.Archives.{Three, Wrong, refused, uneven, no_plate
 
 abbrev pub span_of : Items → Span
 span_of x = record { place = x.place; count = x.count }
+
+-- what is found is items
+abbrev pub IsItems : Found → Type 0
+IsItems (found_items s) = Unit {0}
+IsItems x = ⊥
 
 abbrev pub spans_of : PerList Items → Three Span
 spans_of x = record { numbers = span_of x.numbers; casts = span_of x.casts; parts = span_of x.parts }

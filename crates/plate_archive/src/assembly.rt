@@ -1,12 +1,12 @@
 // An archive of three sheets: three pointers at its front, and behind them the lists that they lead to.
-ghost use Rattle.std.specs.Prelude.{◌≡◌, ◌-◌};
+ghost use Rattle.std.specs.Prelude.{◌≡◌, ◌-◌, ◌<◌, take, vec_items};
 ghost use Rattle.refusal.specs.Told.{told_by};
 ghost use Rattle.builder.specs.Model.{model};
 ghost use Rattle.plate_archive.specs.declared.assembly.AssembleError.TheVariants.{Refused as Refusing, Memory as NoMemory};
-ghost use Rattle.plate_archive.specs.Assembly.{reserve_pointers as reserves_pointers, build as builds, build_lists as builds_lists, assemble_in as assembles_in, room_for as room_by, assemble as assembles};
+ghost use Rattle.plate_archive.specs.Assembly.{reserve_pointers as reserves_pointers, lead as leads, build as builds, build_lists as builds_lists, assemble_in as assembles_in, room_for as room_by, assemble as assembles};
 ghost use Rattle.plate_archive.specs.Told.{sheets_of, left_by, places_of, made_of, Assembles};
 
-use crate::roots::{Casts, Numbers, Parts, PerList, Root, Sheets, list_of, pointer_to};
+use crate::roots::{Casts, Numbers, Parts, PerList, Root, Sheets, Which, list_of, pointer_to};
 use buffer::LIMIT;
 use builder::{Finished, ZeroBuilder};
 use endian::order::{Endian, LittleEndian};
@@ -74,6 +74,22 @@ fn apart(pointer: usize, place: usize) -> usize
     place.saturating_sub(pointer)
 }
 
+// Lets the pointer of a list lead to a place.
+fn lead(
+    list: Which,
+    builder: &mut ZeroBuilder,
+    buffer: &mut [u8],
+    place: usize,
+) -> Result<usize, Refusal>
+    requires { place < 4294967296 }
+    ensures { left_by (λ p. p) result builder.new buffer.new ≡ leads list place (model builder.old) buffer.old }
+{
+    let pointer = list.place();
+    let distance = apart(pointer, place) as u32;
+    builder.write(buffer, pointer, &LittleEndian::from_native_u32(distance))?;
+    Ok(place)
+}
+
 // Builds a list behind what stands, and lets its pointer lead there.
 fn build<R: Root>(
     builder: &mut ZeroBuilder,
@@ -83,10 +99,7 @@ fn build<R: Root>(
     ensures { left_by (λ p. p) result builder.new buffer.new ≡ builds R.which sheet.now (model builder.old) buffer.old }
 {
     let place = builder.build(buffer, &list_of::<R>(), sheet)?;
-    let pointer = R::which().place();
-    let distance = apart(pointer, place) as u32;
-    builder.write(buffer, pointer, &LittleEndian::from_native_u32(distance))?;
-    Ok(place)
+    lead(R::which(), builder, buffer, place)
 }
 
 fn build_lists(
@@ -113,12 +126,19 @@ fn assemble_in(buffer: &mut [u8], sheets: &Sheets) -> Result<Assembled, Refusal>
     Ok(Assembled { places, finished })
 }
 
+// The front of a buffer, as long as its builder told.
+fn cut(mut buffer: Vec<u8>, assembled: &Assembled) -> Vec<u8>
+    ensures { vec_items result ≡ take assembled.now.finished.length (vec_items buffer) }
+{
+    buffer.truncate(assembled.finished.length);
+    buffer
+}
+
 // The bytes of the archive, and what was told of it.
 pub fn assemble(heap: Global, sheets: &Sheets) -> Result<(Vec<u8>, Assembled), AssembleError>
     ensures { Assembles result (assembles (sheets_of sheets.now)) }
 {
     let mut buffer = vec![in heap; 0; room_for(sheets)]?;
     let assembled = assemble_in(buffer.as_mut_slice(), sheets)?;
-    buffer.truncate(assembled.finished.length);
-    Ok((buffer, assembled))
+    Ok((cut(buffer, &assembled), assembled))
 }

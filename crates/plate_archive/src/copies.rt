@@ -1,12 +1,12 @@
 // The sheets of the three lists, copied out of an archive.
 ghost use Rattle.std.specs.Prelude.{◌≡◌, vec_items, IfOk};
 ghost use Rattle.format.specs.Archive.{sheet_at};
-ghost use Rattle.plate_archive.specs.Archives.{IsSound, check as check_by, on, list, sheet_of, sheets as sheets_by, same, verified, sound};
+ghost use Rattle.plate_archive.specs.Archives.{IsSound, check as check_by, on, list, sheet_of, sheets as sheets_by, each, same, all_same, verified, sound};
 ghost use Rattle.plate_archive.specs.Told.{judged, Says, sheets_of};
 
 use crate::fault::Fault;
 use crate::items::place;
-use crate::roots::{Casts, Numbers, Parts, PerList, Root, Sheets, list_of};
+use crate::roots::{Casts, Numbers, Parts, PerList, Root, Sheets, Which, list_of};
 use crate::soundness::check;
 use archive::copy_out;
 use refusal::Cause;
@@ -35,11 +35,25 @@ fn copy_from<R: Root>(heap: Global, archive: &[u8], place: usize) -> Result<Vec<
 }
 
 // The sheet of one list.
+#[tactic(auto, unfolding(crate::specs::Archives::sheet_of))]
 pub fn copy<R: Root>(heap: Global, archive: &[u8]) -> Result<Vec<u8>, Fault>
     ensures { Says (judged vec_items result) (on R.which (sheet_of R.which archive.now)) }
 {
-    let place = place::<R>(archive).map_err(|refusal| Fault::on::<R>(refusal))?;
-    copy_from::<R>(heap, archive, place)
+    match place::<R>(archive) {
+        Ok(place) => copy_from::<R>(heap, archive, place),
+        Err(refusal) => Err(Fault::on::<R>(refusal)),
+    }
+}
+
+// The sheets of the three lists.
+fn copies(heap: Global, archive: &[u8]) -> Result<Sheets, Fault>
+    ensures { Says (judged sheets_of result) (each (λ w. sheet_of w archive.now)) }
+{
+    Ok(PerList {
+        numbers: copy::<Numbers>(heap, archive)?,
+        casts: copy::<Casts>(heap, archive)?,
+        parts: copy::<Parts>(heap, archive)?,
+    })
 }
 
 // The sheets of the three lists of an archive that is sound.
@@ -48,20 +62,37 @@ pub fn sheets(heap: Global, archive: &[u8]) -> Result<Sheets, Fault>
     ensures sound { IfOk result (λ _. IsSound (check_by archive.now)) }
 {
     check(archive)?;
-    Ok(PerList {
-        numbers: copy::<Numbers>(heap, archive)?,
-        casts: copy::<Casts>(heap, archive)?,
-        parts: copy::<Parts>(heap, archive)?,
-    })
+    copies(heap, archive)
 }
 
-fn compare<R: Root>(copied: &[u8], sheet: &[u8]) -> Result<(), Fault>
-    ensures { judged (λ x. x) result ≡ same R.which copied.now sheet.now }
+fn compare(list: Which, copied: &[u8], sheet: &[u8]) -> Result<(), Fault>
+    ensures { judged (λ x. x) result ≡ same list copied.now sheet.now }
 {
     if copied != sheet {
-        return Err(Fault::Altered { list: R::which() });
+        return Err(Fault::Altered { list });
     }
     Ok(())
+}
+
+// That each sheet is the one that its list was built from.
+fn compare_each(copied: &Sheets, built_from: &Sheets) -> Result<(), Fault>
+    ensures { judged (λ x. x) result ≡ all_same (sheets_of copied.now) (sheets_of built_from.now) }
+{
+    compare(
+        Which::Numbers,
+        copied.numbers.as_slice(),
+        built_from.numbers.as_slice(),
+    )?;
+    compare(
+        Which::Casts,
+        copied.casts.as_slice(),
+        built_from.casts.as_slice(),
+    )?;
+    compare(
+        Which::Parts,
+        copied.parts.as_slice(),
+        built_from.parts.as_slice(),
+    )
 }
 
 // That an archive is sound, and copies out as the sheets that it was built from.
@@ -69,8 +100,5 @@ pub fn verify(heap: Global, archive: &[u8], built_from: &Sheets) -> Result<(), F
     ensures told { Says (judged (λ x. x) result) (verified (sheets_of built_from.now) archive.now) }
     ensures same { IfOk result (λ _. sheets_by archive.now ≡ sound (sheets_of built_from.now)) }
 {
-    let copied = sheets(heap, archive)?;
-    compare::<Numbers>(copied.numbers.as_slice(), built_from.numbers.as_slice())?;
-    compare::<Casts>(copied.casts.as_slice(), built_from.casts.as_slice())?;
-    compare::<Parts>(copied.parts.as_slice(), built_from.parts.as_slice())
+    compare_each(&sheets(heap, archive)?, built_from)
 }

@@ -1,8 +1,10 @@
 // One step from a pointer, a slice or a text of an archive.
 ghost use Rattle.std.specs.Prelude.{◌≡◌};
+ghost use Rattle.format.specs.Archive.{found_items, is_valid_deep as is_valid_deep_by};
 ghost use Rattle.refusal.specs.Told.{told, told_by};
-ghost use Rattle.plate_archive.specs.Archives.{text, text_of, items_at as items_by, place_of, items_of};
-ghost use Rattle.plate_archive.specs.Told.{span_of};
+ghost use Rattle.kind.specs.Finds.{found_of};
+ghost use Rattle.plate_archive.specs.Archives.{text, text_of, items_at as items_by, root, root_place, place_of, items_of};
+ghost use Rattle.plate_archive.specs.Told.{span_of, IsItems};
 
 use crate::roots::{Root, Slice, Text, pointer_to};
 use archive::{get, is_valid_deep};
@@ -17,7 +19,20 @@ pub struct Items {
     pub count: u32,
 }
 
+// The items that are found from a slice.
+fn span(found: Found<'_>) -> Items
+    requires { IsItems (found_of found) }
+    ensures { found_of found.entry ≡ found_items (span_of result) }
+{
+    match found {
+        Found::Items { place, count } => Items { place, count },
+        // No other case is found from a slice.
+        _ => unreachable!(),
+    }
+}
+
 // Where a list is.
+#[tactic(auto, unfolding(crate::specs::Archives::place_of))]
 pub(crate) fn place<R: Root>(archive: &[u8]) -> Result<usize, Refusal>
     ensures { told result ≡ place_of R.which archive.now }
 {
@@ -32,18 +47,23 @@ pub(crate) fn place<R: Root>(archive: &[u8]) -> Result<usize, Refusal>
 fn items_at<K: Kind + Drop>(item: K, archive: &[u8], place: usize) -> Result<Items, Refusal>
     ensures { told_by span_of result ≡ items_by (K.Kind.meaning item) archive.now place }
 {
-    match get(&Slice::new(item), archive, place)? {
-        Found::Items { place, count } => Ok(Items { place, count }),
-        // No other case is found from a slice.
-        _ => unreachable!(),
-    }
+    let found = get(&Slice::new(item), archive, place)?;
+    Ok(span(found))
+}
+
+// Reads all that the pointer to a list leads to.
+fn read<R: Root>(archive: &[u8]) -> Result<usize, Refusal>
+    ensures { told result ≡ is_valid_deep_by (root R.which) archive.now (root_place R.which) }
+{
+    is_valid_deep(&pointer_to::<R>(), archive, R::which().place())
 }
 
 // Reads all of one list, and tells its items.
+#[tactic(auto, unfolding(crate::specs::Archives::items_of))]
 pub(crate) fn checked<R: Root>(archive: &[u8]) -> Result<Items, Refusal>
     ensures { told_by span_of result ≡ items_of R.which archive.now }
 {
-    is_valid_deep(&pointer_to::<R>(), archive, R::which().place())?;
+    read::<R>(archive)?;
     items_at(R::item(), archive, place::<R>(archive)?)
 }
 
