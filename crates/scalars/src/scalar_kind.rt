@@ -1,7 +1,9 @@
 // A scalar as a kind: a head in the byte order, and no tail.
-ghost use Rattle.std.specs.Prelude.{◌≡◌, ◌+◌};
+ghost use Rattle.std.specs.Prelude.{◌≡◌, ◌+◌, ◌^◌, ◌<◌};
 ghost use Rattle.std.specs.Bool.{then_some};
 ghost use Rattle.kind.specs.Asked.{Always};
+ghost use Rattle.refusal.specs.Told.{told};
+ghost use Rattle.format.specs.Answers.{good, fault, unless};
 ghost use Rattle.format.specs.Scalars.{scalar_kind};
 ghost use Rattle.format.proofs.ScalarLaws.{scalar_laws};
 
@@ -29,6 +31,17 @@ impl<S: Scalar, E: Endian> ScalarKind<S, E> {
     }
 }
 
+// Where the scalar at a place of a sheet ends, if its number is one. The test stands here and in `shallow`, each with its cause.
+fn scalar_end<S: Scalar>(n: u64, at: usize) -> Result<usize, Refusal>
+    requires { at + 2 + S.Width.Primitive.SIZE < 2 ^ 64 }
+    ensures { told result ≡ unless (S.Scalar.passes n) (fault 14 at) (good (at + 2 + S.Width.Primitive.SIZE)) }
+{
+    if !S::valid(n) {
+        return Err(Refusal::at(Cause::SheetNotScalar, at));
+    }
+    Ok(at + 2 + S::Width::SIZE)
+}
+
 impl<S: Scalar, E: Endian> Kind for ScalarKind<S, E> {
     ghost meaning = { λ _. scalar_kind S.Scalar.MARK S.Width.Primitive.SIZE S.Scalar.passes E.Endian.order };
 
@@ -45,11 +58,7 @@ impl<S: Scalar, E: Endian> Kind for ScalarKind<S, E> {
 
     fn scan(&self, sheet: &[u8], at: usize) -> Result<usize, Refusal> {
         let n = sheet::number::<S::Width>(sheet, at, &S::MARK)?;
-        // The test stands here and in `shallow`, each with its cause: a function for it is no shorter.
-        if !S::valid(S::Width::widen(n)) {
-            return Err(Refusal::at(Cause::SheetNotScalar, at));
-        }
-        Ok(at + 2 + S::Width::SIZE)
+        scalar_end::<S>(S::Width::widen(n), at)
     }
 
     fn layout(&self, sheet: &[u8], at: &mut usize, tail: usize) -> (usize, usize) {
