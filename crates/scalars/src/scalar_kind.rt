@@ -1,7 +1,11 @@
 // A scalar as a kind: a head in the byte order, and no tail.
-ghost use Rattle.std.specs.Prelude.{◌≡◌, ◌+◌};
+ghost use Rattle.std.specs.Prelude.{◌≡◌, ℕ, ◌+◌, ◌^◌, ◌<◌, drop};
 ghost use Rattle.std.specs.Bool.{then_some};
 ghost use Rattle.kind.specs.Asked.{Always};
+ghost use Rattle.refusal.specs.Told.{told};
+ghost use Rattle.format.specs.Answers.{good, fault, unless};
+ghost use Rattle.format.specs.Items.{first_of};
+ghost use Rattle.format.specs.Sheets.{at_place, scan_number, number_of};
 ghost use Rattle.format.specs.Scalars.{scalar_kind};
 ghost use Rattle.format.proofs.ScalarLaws.{scalar_laws};
 
@@ -29,6 +33,28 @@ impl<S: Scalar, E: Endian> ScalarKind<S, E> {
     }
 }
 
+// Where the scalar at a place of a sheet ends, if its number is one. The test stands here and in `shallow`, each with its cause.
+fn scalar_end<S: Scalar>(n: u64, at: usize) -> Result<usize, Refusal>
+    requires { at + 2 + S.Width.Primitive.SIZE < 2 ^ 64 }
+    ensures { told result ≡ unless (S.Scalar.passes n) (fault 14 at) (good (at + 2 + S.Width.Primitive.SIZE)) }
+{
+    if !S::valid(n) {
+        return Err(Refusal::at(Cause::SheetNotScalar, at));
+    }
+    Ok(at + 2 + S::Width::SIZE)
+}
+
+// The number of the scalar at a place where a scan found one. `at` goes on behind it.
+fn next_number<S: Scalar>(sheet: &[u8], at: &mut usize) -> <S::Width as Primitive>::Number
+    requires { (next : ℕ) × (at_place (scan_number S.Scalar.MARK S.Width.Primitive.SIZE S.Scalar.passes) sheet.now at.old ≡ good next) }
+    ensures value { S.Width.Primitive.value result ≡ number_of S.Width.Primitive.SIZE (first_of (scan_number S.Scalar.MARK S.Width.Primitive.SIZE S.Scalar.passes (drop at.old sheet.now)) (drop at.old sheet.now)) }
+    ensures next { at_place (scan_number S.Scalar.MARK S.Width.Primitive.SIZE S.Scalar.passes) sheet.now at.old ≡ good at.new }
+{
+    let n = S::Width::take_back::<LittleEndian>(sheet, *at + 2);
+    *at = *at + 2 + S::Width::SIZE;
+    n
+}
+
 impl<S: Scalar, E: Endian> Kind for ScalarKind<S, E> {
     ghost meaning = { λ _. scalar_kind S.Scalar.MARK S.Width.Primitive.SIZE S.Scalar.passes E.Endian.order };
 
@@ -45,15 +71,11 @@ impl<S: Scalar, E: Endian> Kind for ScalarKind<S, E> {
 
     fn scan(&self, sheet: &[u8], at: usize) -> Result<usize, Refusal> {
         let n = sheet::number::<S::Width>(sheet, at, &S::MARK)?;
-        // The test stands here and in `shallow`, each with its cause: a function for it is no shorter.
-        if !S::valid(S::Width::widen(n)) {
-            return Err(Refusal::at(Cause::SheetNotScalar, at));
-        }
-        Ok(at + 2 + S::Width::SIZE)
+        scalar_end::<S>(S::Width::widen(n), at)
     }
 
     fn layout(&self, sheet: &[u8], at: &mut usize, tail: usize) -> (usize, usize) {
-        *at = *at + 2 + S::Width::SIZE;
+        next_number::<S>(sheet, at);
         (tail, S::Width::SIZE)
     }
 
@@ -65,9 +87,8 @@ impl<S: Scalar, E: Endian> Kind for ScalarKind<S, E> {
         head: usize,
         tail: usize,
     ) -> usize {
-        let n = S::Width::take_back::<LittleEndian>(sheet, *at + 2);
+        let n = next_number::<S>(sheet, at);
         S::Width::lay::<E>(n, out, head);
-        *at = *at + 2 + S::Width::SIZE;
         tail
     }
 

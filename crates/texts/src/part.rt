@@ -2,9 +2,9 @@
 ghost use Rattle.std.specs.Prelude.{◌≡◌, ◌+◌, ◌≤◌, length, IfOk};
 ghost use Rattle.format.specs.Places.{limit};
 ghost use Rattle.format.specs.Answers.{both};
-ghost use Rattle.format.specs.Texts.{text_at, inline_at as inline_at_by};
+ghost use Rattle.format.specs.Texts.{text_of_length, text_at, inline_at as inline_at_by};
 ghost use Rattle.refusal.specs.Told.{told_by};
-ghost use Rattle.texts.specs.Parts.{judge, part_of};
+ghost use Rattle.texts.specs.Parts.{judge, part_of, led};
 
 use distance::follow;
 use endian::order::Endian;
@@ -25,13 +25,25 @@ fn judged(part: Part<'_>, head: usize) -> Result<Part<'_>, Refusal>
 }
 
 // That a part lies within its archive is said of the two together, so no type of the part holds it.
-// Where the text of the head at a place stands, which may be no text. One of no bytes is found behind its length, and its distance is ignored.
-pub(crate) fn part_at<E: Endian>(archive: &[u8], at: usize) -> Result<Part<'_>, Refusal>
+// The bytes that the distance behind a length leads to.
+fn led_part<E: Endian>(archive: &[u8], at: usize, count: usize) -> Result<Part<'_>, Refusal>
     requires { (at + 8 ≤ length archive.now) × (length archive.now ≤ limit) }
-    ensures judged { both (told_by part_of result) (judge at) ≡ text_at E.Endian.order archive.now at }
+    ensures judged { both (told_by part_of result) (judge at) ≡ led E.Endian.order archive.now at count }
     ensures within { IfOk result (λ x. x.place + length x.bytes.now ≤ length archive.now) }
 {
-    let count = Width4::take_back::<E>(archive, at) as usize;
+    let place = follow::<E>(archive, at + 4, count, 1)?;
+    Ok(Part {
+        place,
+        bytes: &archive[place..place + count],
+    })
+}
+
+// Where a text of so many bytes stands. One of none is found behind its length, and its distance is ignored.
+fn part_of_length<E: Endian>(archive: &[u8], at: usize, count: usize) -> Result<Part<'_>, Refusal>
+    requires { (at + 8 ≤ length archive.now) × (length archive.now ≤ limit) }
+    ensures judged { both (told_by part_of result) (judge at) ≡ text_of_length E.Endian.order archive.now at count }
+    ensures within { IfOk result (λ x. x.place + length x.bytes.now ≤ length archive.now) }
+{
     if count == 0 {
         let place = at + 4;
         return Ok(Part {
@@ -39,11 +51,17 @@ pub(crate) fn part_at<E: Endian>(archive: &[u8], at: usize) -> Result<Part<'_>, 
             bytes: &archive[place..place],
         });
     }
-    let place = follow::<E>(archive, at + 4, count, 1)?;
-    Ok(Part {
-        place,
-        bytes: &archive[place..place + count],
-    })
+    led_part::<E>(archive, at, count)
+}
+
+// Where the text of the head at a place stands, which may be no text.
+pub(crate) fn part_at<E: Endian>(archive: &[u8], at: usize) -> Result<Part<'_>, Refusal>
+    requires { (at + 8 ≤ length archive.now) × (length archive.now ≤ limit) }
+    ensures judged { both (told_by part_of result) (judge at) ≡ text_at E.Endian.order archive.now at }
+    ensures within { IfOk result (λ x. x.place + length x.bytes.now ≤ length archive.now) }
+{
+    let count = Width4::take_back::<E>(archive, at) as usize;
+    part_of_length::<E>(archive, at, count)
 }
 
 // The text of the head at a place.

@@ -1,4 +1,7 @@
 // Text as a kind: its head is the length and the distance to its bytes, which are its tail.
+ghost use Rattle.std.specs.Prelude.{◌≡◌, ◌+◌, ◌-◌, ◌^◌, ◌<◌, ◌≤◌, ◌++◌, length};
+ghost use Rattle.format.specs.Places.{limit, put, stop};
+ghost use Rattle.format.specs.Sheets.{text_mark, text_sheet};
 ghost use Rattle.format.specs.Texts.{text_kind};
 ghost use Rattle.format.specs.Archive.{text_step};
 ghost use Rattle.format.proofs.TextKindLaws.{text_laws};
@@ -25,6 +28,33 @@ impl<E: Endian> ZeroStr<E> {
     }
 }
 
+// Where a tail of so many bytes ends, which is told up to a limit.
+fn tail_end(tail: usize, count: usize) -> usize
+    requires { tail + count < 2 ^ 64 }
+    ensures { result ≡ stop (tail + count) }
+{
+    (tail + count).min(STOP)
+}
+
+// Puts the head of a text over the bytes at a place: how many bytes it has, and the distance to them.
+fn put_head<E: Endian>(out: &mut [u8], head: usize, count: usize, tail: usize)
+    requires small { count < 4294967296 }
+    requires seated { (head + 8 ≤ tail) × ((tail ≤ length out.old) × (length out.old ≤ limit)) }
+    ensures { out.new ≡ put out.old head (E.Endian.order.lay 4 count ++ E.Endian.order.lay 4 (tail - (head + 4))) }
+{
+    Width4::lay::<E>(count as u32, out, head);
+    lead::<E>(out, head + 4, tail);
+}
+
+// Puts the sheet of a text over the bytes at a place, and tells where it ends.
+fn put_sheet(out: &mut [u8], to: usize, bytes: &[u8]) -> usize
+    requires { (to + (6 + length bytes.now) ≤ length out.old) × (length bytes.now < 4294967296) }
+    ensures bytes { out.new ≡ put out.old to (text_sheet text_mark bytes.now) }
+    ensures end { result ≡ to + length (text_sheet text_mark bytes.now) }
+{
+    put_text(out, to, marks::TX, bytes)
+}
+
 impl<E: Endian> Kind for ZeroStr<E> {
     ghost meaning = { λ _. text_kind E.Endian.order };
 
@@ -44,7 +74,7 @@ impl<E: Endian> Kind for ZeroStr<E> {
 
     fn layout(&self, sheet: &[u8], at: &mut usize, tail: usize) -> (usize, usize) {
         let bytes = next_text(sheet, at);
-        ((tail + bytes.len()).min(STOP), 4)
+        (tail_end(tail, bytes.len()), 4)
     }
 
     fn fill(
@@ -56,15 +86,13 @@ impl<E: Endian> Kind for ZeroStr<E> {
         tail: usize,
     ) -> usize {
         let bytes = next_text(sheet, at);
-        Width4::lay::<E>(bytes.len() as u32, out, head);
-        lead::<E>(out, head + 4, tail);
+        put_head::<E>(out, head, bytes.len(), tail);
         put_at(out, tail, bytes);
         tail + bytes.len()
     }
 
     fn shallow(&self, archive: &[u8], at: usize) -> Result<usize, Refusal> {
-        text_at::<E>(archive, at)?;
-        Ok(at)
+        text_at::<E>(archive, at).and(Ok(at))
     }
 
     fn deep(&self, archive: &[u8], at: usize) -> Result<usize, Refusal> {
@@ -75,7 +103,7 @@ impl<E: Endian> Kind for ZeroStr<E> {
     fn copy(&self, archive: &[u8], at: usize, out: &mut [u8], to: usize) -> usize {
         // A copy comes behind a deep check, which judged the text.
         let text = part_at::<E>(archive, at).unwrap();
-        put_text(out, to, marks::TX, text.bytes)
+        put_sheet(out, to, text.bytes)
     }
 }
 

@@ -1,5 +1,7 @@
 // Inline text as a kind: its head is the length, the bytes and zeros, and it has no tail.
-ghost use Rattle.std.specs.Prelude.{◌≡◌};
+ghost use Rattle.std.specs.Prelude.{◌≡◌, ◌+◌, ◌<◌, ◌≤◌, length};
+ghost use Rattle.format.specs.Places.{put};
+ghost use Rattle.format.specs.Sheets.{inline_mark, text_sheet};
 ghost use Rattle.format.specs.Meaning.{counted};
 ghost use Rattle.format.specs.Texts.{inline_kind};
 ghost use Rattle.format.specs.Archive.{inline_step};
@@ -41,6 +43,15 @@ impl<E: Endian> ZeroString<E> {
     }
 }
 
+// Puts the sheet of an inline text over the bytes at a place, and tells where it ends.
+fn put_sheet(out: &mut [u8], to: usize, bytes: &[u8]) -> usize
+    requires { (to + (6 + length bytes.now) ≤ length out.old) × (length bytes.now < 4294967296) }
+    ensures bytes { out.new ≡ put out.old to (text_sheet inline_mark bytes.now) }
+    ensures end { result ≡ to + length (text_sheet inline_mark bytes.now) }
+{
+    put_text(out, to, marks::TI, bytes)
+}
+
 impl<E: Endian> Kind for ZeroString<E> {
     ghost meaning = { λ k. inline_kind k.capacity.value E.Endian.order };
 
@@ -80,8 +91,7 @@ impl<E: Endian> Kind for ZeroString<E> {
     }
 
     fn shallow(&self, archive: &[u8], at: usize) -> Result<usize, Refusal> {
-        inline_at::<E>(archive, at, self.capacity())?;
-        Ok(at)
+        inline_at::<E>(archive, at, self.capacity()).and(Ok(at))
     }
 
     fn deep(&self, archive: &[u8], at: usize) -> Result<usize, Refusal> {
@@ -92,7 +102,7 @@ impl<E: Endian> Kind for ZeroString<E> {
     fn copy(&self, archive: &[u8], at: usize, out: &mut [u8], to: usize) -> usize {
         // A copy comes behind a deep check, which judged the text.
         let text = inline_part::<E>(archive, at, self.capacity());
-        put_text(out, to, marks::TI, text.bytes)
+        put_sheet(out, to, text.bytes)
     }
 }
 
