@@ -1,10 +1,12 @@
 // A count, and a distance to so many values in a row.
-ghost use Rattle.std.specs.Prelude.{◌≡◌};
+ghost use Rattle.std.specs.Prelude.{◌≡◌, ℕ, ◌+◌};
+ghost use Rattle.format.specs.Places.{part};
+ghost use Rattle.format.specs.Orders.{number as number_by};
 ghost use Rattle.format.specs.Items.{row};
 ghost use Rattle.format.specs.Links.{slice as slice_kind, slice_at};
 ghost use Rattle.format.specs.Archive.{slice_step};
 ghost use Rattle.refusal.specs.Told.{told_by};
-ghost use Rattle.kind.specs.Asked.{Seated};
+ghost use Rattle.kind.specs.Asked.{Next, Seated};
 ghost use Rattle.lists.specs.Spans.{span_of};
 ghost use Rattle.format.proofs.LinkLaws.{slice-laws};
 
@@ -57,6 +59,14 @@ impl<K: Kind, E: Endian> ZeroSlice<K, E> {
         }
     }
 
+    // How many items the slice at a place of a sheet has, if there is one.
+    fn count(&self, sheet: &[u8], at: usize) -> u32
+        requires { ((q : ℕ) × Next (slice_kind (K.Kind.meaning self.now.item) E.Endian.order) sheet.now at q) }
+        ensures { result ≡ number_by (part (at + 2) 4 sheet.now) }
+    {
+        Width4::take_back::<LittleEndian>(sheet, at + 2)
+    }
+
     // Where the items of the slice at a place are, and how many. The distance of one that has none is ignored.
     fn span(&self, archive: &[u8], at: usize) -> Result<Span, Refusal>
         requires { Seated (slice_kind (K.Kind.meaning self.now.item) E.Endian.order) archive.now at }
@@ -94,7 +104,7 @@ impl<K: Kind, E: Endian> Kind for ZeroSlice<K, E> {
     }
 
     fn layout(&self, sheet: &[u8], at: &mut usize, tail: usize) -> (usize, usize) {
-        let count = Width4::take_back::<LittleEndian>(sheet, *at + 2);
+        let count = self.count(sheet, *at);
         *at += 6;
         let row = self.row(count);
         let start = far_tail(tail, row.size(), row.align());
@@ -110,11 +120,12 @@ impl<K: Kind, E: Endian> Kind for ZeroSlice<K, E> {
         head: usize,
         tail: usize,
     ) -> usize {
-        let count = Width4::take_back::<LittleEndian>(sheet, *at + 2);
+        let distance = head + 4;
+        let count = self.count(sheet, *at);
         *at += 6;
         Width4::lay::<E>(count, out, head);
         let row = self.row(count);
-        let place = reach::<E>(out, head + 4, tail, row.align());
+        let place = reach::<E>(out, distance, tail, row.align());
         let start = place + row.size();
         row.fill(sheet, at, out, place, start)
     }
