@@ -5,38 +5,31 @@ use refusal::Refusal;
 use std::alloc::AllocError;
 use thiserror::Error;
 
-// What is wrong with a line that is no call. No error of its own: `Trouble` is the one that is answered, and tells it.
-#[derive(Clone, Copy, Debug)]
+// What is wrong with a line that is no call.
+#[derive(Clone, Copy, Debug, Error)]
 pub enum Unread {
+    #[error("a word is missing")]
     NoWord,
+    #[error("a number was expected")]
     NoNumber,
+    #[error("hexadecimal digits were expected")]
     NoDigits,
+    #[error("an odd number of hexadecimal digits")]
     OddDigits,
+    #[error("an order is l or b")]
     NoOrder,
+    #[error("no such kind in the catalogue")]
     NoKind,
+    #[error("no such word of a sheet")]
     NoForm,
+    #[error("texts are counted up to a length of 3")]
     TooLong,
+    #[error("this kind has no get")]
     NoGet,
+    #[error("no builder is open")]
     NoBuilder,
+    #[error("no such call")]
     NoCall,
-}
-
-impl Unread {
-    fn words(self) -> &'static str {
-        match self {
-            Unread::NoWord => "a word is missing",
-            Unread::NoNumber => "a number was expected",
-            Unread::NoDigits => "hexadecimal digits were expected",
-            Unread::OddDigits => "an odd number of hexadecimal digits",
-            Unread::NoOrder => "an order is l or b",
-            Unread::NoKind => "no such kind in the catalogue",
-            Unread::NoForm => "no such word of a sheet",
-            Unread::TooLong => "texts are counted up to a length of 3",
-            Unread::NoGet => "this kind has no get",
-            Unread::NoBuilder => "no builder is open",
-            Unread::NoCall => "no such call",
-        }
-    }
 }
 
 #[derive(Debug, Drop, Error)]
@@ -45,8 +38,8 @@ pub enum Trouble {
     Refused(#[from] Refusal),
     #[error("refused: {0}")]
     Told(Refusal),
-    #[error("not a call: {}", .0.words())]
-    Unread(Unread),
+    #[error("not a call: {0}")]
+    Unread(#[from] Unread),
     #[error("not made: out of memory")]
     Memory(#[from(alloc)] AllocError),
 }
@@ -58,13 +51,6 @@ impl Trouble {
             Trouble::Refused(refusal) => Trouble::Told(refusal),
             other => other,
         }
-    }
-}
-
-// By hand: `#[from]` is for errors.
-impl From<Unread> for Trouble {
-    fn from(unread: Unread) -> Trouble {
-        Trouble::Unread(unread)
     }
 }
 
