@@ -35,6 +35,7 @@ pub fn put_zeros(out: &mut [u8], at: usize, count: usize)
 
 // The next place of an alignment, from a place on. The alignment is a number and no type with these bounds, since it is one in what a kind
 // answers: the type would be made and taken apart at each call.
+#[tactic(auto, using(crate::proofs::Rounds::nearest))]
 pub fn rounded(place: usize, align: usize) -> usize
     requires { (place ≤ 2147483648) × ((0 < align) × (align ≤ 4096)) }
     ensures { result ≡ up place align }
