@@ -1,6 +1,6 @@
 -- What an array in the head asks of its row, and what it answers by it. Assumes nothing.
-use Rattle.std.proofs.Common.{◌≡◌, ℕ, ◌+◌, ◌≤◌, List, length, sym, refl, ap, ◌∙◌, subst, arith}
-use Rattle.format.specs.Answers.{Answer, Fault, good, bad, both, inside}
+use Rattle.std.proofs.Common.{◌≡◌, ℕ, ◌+◌, ◌≤◌, List, length, sym, refl, ap, ◌∙◌, subst}
+use Rattle.format.specs.Answers.{Answer, good, bad, both, inside}
 use Rattle.format.specs.Sheets.{array_mark}
 use Rattle.format.specs.Meaning.{Meaning}
 use Rattle.format.specs.Items.{row}
@@ -9,13 +9,9 @@ use Rattle.kind.specs.Asked.{value_at, Next, Askable, Foretold, Fillable}
 use Rattle.holding.proofs.Fronts.{held-there, held-found}
 
 -- one look at the row, told one level deeper
-pub looked-bad : (x : Answer ℕ) (f : Fault) (p : ℕ) → bad f ≡ inside x → bad f ≡ inside (both x (λ _. good p))
-looked-bad (good n) f p h = let z : ◌≡◌ {A = ℕ} 0 1 = cc in absurd (omega arith)
-looked-bad (bad g) f p h = h
-
-pub looked-good : (x : Answer ℕ) (n p : ℕ) → good n ≡ inside x → good p ≡ inside (both x (λ _. good p))
-looked-good (good k) n p h = refl
-looked-good (bad g) n p h = let z : ◌≡◌ {A = ℕ} 0 1 = cc in absurd (omega arith)
+pub looked : (x : Answer ℕ) (p : ℕ) → inside (both x (λ _. good p)) ≡ both (inside x) (λ _. good p)
+looked (good n) p = refl
+looked (bad f) p = refl
 
 module _ (n : ℕ) (m : Meaning) (s : List ℕ) (p : ℕ) where
   found : (q : ℕ) → Next (array n m) s p q → Next (row m n) s (p + 2) q

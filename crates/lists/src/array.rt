@@ -63,6 +63,7 @@ impl<K: Kind> Kind for Array<K> {
         self.items.fill(sheet, at, out, head, tail)
     }
 
+    #[tactic(auto, using(crate::proofs::ArrayCalls::looked))]
     fn shallow(&self, archive: &[u8], at: usize) -> Result<usize, Refusal> {
         held(self.items.shallow(archive, at))?;
         Ok(at)
