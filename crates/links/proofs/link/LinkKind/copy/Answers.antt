@@ -1,5 +1,4 @@
-use Rattle.format.specs.Places.{put}
-use Rattle.std.proofs.Common.{◌+◌, arith, sym, ap, ◌∙◌}
+use Rattle.std.proofs.Common.{◌+◌, arith, sym, ap}
 use Rattle.holding.proofs.Through.{leads, led_copied}
 use Rattle.links.proofs.link.LinkKind.copy.Goals as goal
 
@@ -9,4 +8,4 @@ led-requires g c = (c.requires.seated.within, (c.requires.seated.capped, leads g
 pub returns : goal.returns
 returns g c s h =
     led_copied g.M.Mark.MARK (g.K.Kind.meaning c.args.self.now.item) g.E.Endian.order c.args.archive.now c.args.at s h c.led.result c.led.ensures
-    c.args.out.now c.put_at.new.out c.copy.new.out c.args.to (c.args.to + 2) c.copy.result (omega (arith, c.requires.room)) (c.put_at.ensures ∙ ap (put c.args.out.now c.args.to) c.MARK.ensures) (ap (λ z. c.args.to + z) (sym g.M.Mark.two)) c.copy.ensures
+    c.args.out.now c.put_at.new.out c.copy.new.out c.args.to (c.args.to + 2) c.copy.result (omega (arith, c.requires.room)) (cc) (ap (λ z. c.args.to + z) (sym g.M.Mark.two)) c.copy.ensures
