@@ -49,16 +49,16 @@ module _ {w b : Meaning} {s : List ℕ} {p d : ℕ} {head : ℕ → ℕ → List
             subst (λ x. (x.end ≡ end) × (x.widest ≡ widest)) (sym (l.laid k.next h t k.found)) (y.0, omega (arith, y.1))
 
   module _ {out : List ℕ} {h t : ℕ} (f : Fillable w s p out h t) {a : ℕ} (e : a ≡ b.align) where
-    -- q is where its head is put, as the code has it
-    module _ {z : ℕ} (g : z ≡ b.size) {q : ℕ} (reached : q ≡ up t a) where
+    -- q is where its head is put, and j where its tail starts, as the code has them
+    module _ {q : ℕ} (reached : q ≡ up t a) {j : ℕ} (starts : j ≡ q + b.size) where
       place : q ≡ up t b.align
       place = reached ∙ ap (up t) e
 
       record Room : Type 0 where
         on : t ≤ q
-        within : q + z ≤ length out
-        same : w.lay (value_at w s p) h t ≡ far_at (head h q) b (value_at b s d) t q (q + z)
-        fits : (b.lay (value_at b s d) q (q + z)).end ≤ length out
+        within : j ≤ length out
+        same : w.lay (value_at w s p) h t ≡ far_at (head h q) b (value_at b s d) t q j
+        fits : (b.lay (value_at b s d) q j).end ≤ length out
         below : h + length (head h q) ≤ t
 
       room : Room
@@ -70,12 +70,12 @@ module _ {w b : Meaning} {s : List ℕ} {p d : ℕ} {head : ℕ → ℕ → List
           let ends = (l.keeps.onward v (up t b.align) (stop (up t b.align + b.size)) belongs (omega arith)).0 in
           let laid = l.laid f.next h t f.found in
           let end = subst (λ x. x.end ≤ length out) laid f.room in
-          let exact : stop (up t b.align + b.size) ≡ q + z = omega arith in
-          let same : w.lay (value_at w s p) h t ≡ far_at (head h q) b v t q (q + z) = laid ∙ ap₂ (λ q e. far_at (head h q) b v t q e) (sym at) exact in
+          let exact : stop (up t b.align + b.size) ≡ j = omega arith in
+          let same : w.lay (value_at w s p) h t ≡ far_at (head h q) b v t q j = laid ∙ ap₂ (λ q e. far_at (head h q) b v t q e) (sym at) exact in
           let long = ap (λ x. length x.head) (sym same) ∙ l.holder.head_long (value_at w s p) h t (value_placed w l.holder s p l.bytes out h t f) in
           record { on = omega arith; within = omega arith; same = same; fits = subst (λ x. x.end ≤ length out) same f.room; below = omega arith }
 
-      pub far_fillable : {next : List ℕ} → length next ≡ length out → Fillable b s d next q (q + z)
+      pub far_fillable : {next : List ℕ} → length next ≡ length out → Fillable b s d next q j
       far_fillable long =
           let r = room in
           record {
@@ -90,20 +90,20 @@ module _ {w b : Meaning} {s : List ℕ} {p d : ℕ} {head : ℕ → ℕ → List
 
       -- the head, zeros, and the head and the tail of what is held are put one behind another
       pub far-filled :
-          {next new : List ℕ} {r : ℕ} → next ≡ put (put out h (head h (up t a))) t (zeros (up t a - t)) → new ≡ filled next q (q + z) (b.lay (value_at b s d) q (q + z)) →
-          r ≡ (b.lay (value_at b s d) q (q + z)).end → (new ≡ filled out h t (w.lay (value_at w s p) h t)) × (r ≡ (w.lay (value_at w s p) h t).end)
+          {next new : List ℕ} {r : ℕ} → next ≡ put (put out h (head h (up t a))) t (zeros (up t a - t)) → new ≡ filled next q j (b.lay (value_at b s d) q j) →
+          r ≡ (b.lay (value_at b s d) q j).end → (new ≡ filled out h t (w.lay (value_at w s p) h t)) × (r ≡ (w.lay (value_at w s p) h t).end)
       far-filled {next} put_head put-held end =
           let r = room in
           let first = put out h (head h q) in
           let pad = zeros (q - t) in
-          let x = b.lay (value_at b s d) q (q + z) in
+          let x = b.lay (value_at b s d) q j in
           let padded : next ≡ put first t pad = put_head ∙ ap (λ q. put (put out h (head h q)) t (zeros (q - t))) (sym reached) in
           let first_long = length-put out h (head h q) (omega arith) in
           let pad_long : length pad ≡ q - t = length-replicate (q - t) 0 in
           let long : length next ≡ length out = ap length padded ∙ (length-put first t pad (omega arith) ∙ first_long) in
-          let head_long = l.keeps.head_long (value_at b s d) q (q + z) (value_placed b l.keeps s d l.bytes next q (q + z) (far_fillable long)) in (
+          let head_long = l.keeps.head_long (value_at b s d) q j (value_placed b l.keeps s d l.bytes next q j (far_fillable long)) in (
             put-held ∙
-                (put-put next q x.head x.tail (q + z) (omega arith) (omega arith) ∙
+                (put-put next q x.head x.tail j (omega arith) (omega arith) ∙
                 (ap (λ y. put y q (x.head ++ x.tail)) padded ∙
                 (put-put first t pad (x.head ++ x.tail) q (omega arith) (omega arith) ∙ ap (filled out h t) (sym r.same)))),
             end ∙ ap (λ y. y.end) (sym r.same),

@@ -18,6 +18,6 @@ pub returns : goal.returns
 returns g c =
     let l = link_holds g.M.Mark.MARK g.M.Mark.bytes g.M.Mark.two (g.met.K.Kind.lawful c.args.self.now.item) g.met.E.Endian.undoes c.args.sheet.now c.args.at.now (typed_bytes c.args.sheet.now c.type_inv.sheet) in
     record {
-      foretold = far_foretold l c.align.ensures c.size.ensures c.requires c.far_tail-start.ensures c.layout-end.ensures.foretold (grind arith);
+      foretold = far_foretold l c.align.ensures c.size.ensures c.requires c.far_tail-start.ensures c.layout-end.ensures.foretold (omega arith);
       next = far-next l c.requires.found c.layout-end.ensures.next;
     }
