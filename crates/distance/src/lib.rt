@@ -20,8 +20,8 @@ pub fn target<E: Endian>(archive: &[u8], at: usize) -> Result<usize, Refusal>
     ensures { told result ≡ target_of E.Endian.order archive.now at }
 {
     let distance = Width4::take_back::<E>(archive, at).cast_signed();
-    at.checked_add_signed(distance as isize)
-        .ok_or(Refusal::at(Cause::Outside, at))
+    let place = at as i64 + i64::from(distance);
+    usize::try_from(place).map_err(|_| Refusal::at(Cause::Outside, at))
 }
 
 // A place, if so many bytes sit there at an alignment in an archive of a length; a refusal names the place that led there.

@@ -2,7 +2,7 @@
 ghost use Rattle.std.specs.Prelude.{⊤};
 
 use crate::desk::Desk;
-use crate::said::Said;
+use crate::said::{Digits, Said};
 use crate::trouble::{Trouble, Unread};
 use crate::words::Words;
 use archive::{copy_out, get, is_valid, is_valid_deep};
@@ -52,14 +52,14 @@ impl Look<'_> {
 fn copy<K: Kind>(root: Root, room: usize, desk: &Desk, kind: &K) -> Result<Said, Trouble> {
     let mut output = desk.filled(room)?;
     let length = copy_out(kind, root.archive, root.place, output.as_mut_slice())?;
-    Ok(Said::Bytes(length, desk.hexadecimal(output.as_slice())?))
+    Ok(Said::Bytes(length, Digits(output)))
 }
 
 fn found(found: Found, desk: &Desk) -> Result<Said, Trouble> {
     match found {
         Found::Target { place } => Ok(Said::Number(place)),
         Found::Items { place, count } => Ok(Said::Pair(place, count as usize)),
-        Found::Text(part) => Ok(Said::Bytes(part.place, desk.hexadecimal(part.bytes)?)),
+        Found::Text(part) => Ok(Said::Bytes(part.place, desk.digits(part.bytes)?)),
     }
 }
 

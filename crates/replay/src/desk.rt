@@ -1,5 +1,5 @@
 // The builder that lines open and use.
-use crate::said::Said;
+use crate::said::{Digits, Said};
 use crate::trouble::{Trouble, Unread};
 use crate::words::Words;
 use builder::ZeroBuilder;
@@ -26,13 +26,8 @@ impl Desk {
         vec![in self.heap; OLD; room]
     }
 
-    // Two capital digits a byte; a minus sign where there are none.
-    pub(crate) fn hexadecimal(&self, bytes: &[u8]) -> Result<String, AllocError> {
-        if bytes.is_empty() {
-            "-".to_string(self.heap)
-        } else {
-            hex::encode_upper(self.heap, bytes)
-        }
+    pub(crate) fn digits(&self, bytes: &[u8]) -> Result<Digits, AllocError> {
+        Ok(Digits(bytes.to_vec(self.heap)?))
     }
 
     // A builder over a new buffer.
@@ -62,7 +57,7 @@ impl Desk {
     pub(crate) fn finish(&mut self, buffer: &[u8]) -> Result<Said, Trouble> {
         let finished = self.builder.take().ok_or(Unread::NoBuilder)?.finish();
         let end = finished.length.min(buffer.len());
-        let archive = self.hexadecimal(&buffer[..end])?;
+        let archive = self.digits(&buffer[..end])?;
         Ok(Said::Archive(finished.length, finished.alignment, archive))
     }
 }

@@ -41,6 +41,14 @@ impl<'a> Line<'a> {
     }
 }
 
+// A call that can be refused, but for `new`.
+fn told(words: Words, desk: &mut Desk, buffer: &mut [u8]) -> Result<Said, Trouble> {
+    match Sample::of_sheet(words)? {
+        Some(sample) => sample.answer(desk),
+        None => Task::read(words, desk)?.run(desk, buffer),
+    }
+}
+
 // How a call is made and told.
 #[derive(Clone, Copy)]
 pub enum Manner {
@@ -73,9 +81,7 @@ impl Manner {
                 let end = buffer.len().saturating_sub(1);
                 Task::read(words, desk)?.run(desk, &mut buffer.as_mut_slice()[..end])
             }
-            Manner::Told => Task::read(words, desk)?
-                .run(desk, buffer.as_mut_slice())
-                .map_err(Trouble::told),
+            Manner::Told => told(words, desk, buffer.as_mut_slice()).map_err(Trouble::told),
         }
     }
 }

@@ -40,33 +40,52 @@ fn form(name: &str) -> Result<Form, Unread> {
     }
 }
 
-// How many sequences of so many bytes are text.
-fn texts_of(length: usize) -> usize
-    requires { length ≤ 3 }
+// How many sequences of N bytes are text. The length is known where this is compiled: with it as a number, to count those of 3 bytes takes
+// half as long again.
+fn texts_of<const N: usize>() -> usize
+    requires { N ≤ 3 }
 {
-    (0..1u32 << (8 * length))
-        .filter(|n| is_text(&n.to_be_bytes()[4 - length..]))
+    (0..1u32 << (8 * N))
+        .filter(|n| requires { N ≤ 3 } { is_text(&n.to_be_bytes()[4 - N..]) })
         .count()
+}
+
+fn texts(length: usize) -> Result<Said, Trouble> {
+    let count = match length {
+        0 => texts_of::<0>(),
+        1 => texts_of::<1>(),
+        2 => texts_of::<2>(),
+        3 => texts_of::<3>(),
+        _ => return Err(Unread::TooLong.into()),
+    };
+    Ok(Said::Number(count))
 }
 
 fn word(form: Form, sheet: &[u8], desk: &Desk) -> Result<Said, Trouble> {
     let read = sheet::read(sheet, 0, form)?;
     let (place, term) = match read.word {
         Word::Number { place, value } => (place, Term::Number(value)),
-        Word::Text { place, bytes } => (place, Term::Text(desk.hexadecimal(bytes)?)),
+        Word::Text { place, bytes } => (place, Term::Text(desk.digits(bytes)?)),
         Word::Count { place, count } => (place, Term::Count(count)),
     };
     Ok(Said::Word(place, read.end, term))
 }
 
 impl<'a> Sample<'a> {
+    // The first word of a sheet, which is refused as a value is.
+    pub(crate) fn of_sheet(words: Words<'a>) -> Result<Option<Sample<'a>>, Unread> {
+        match words.word(0)? {
+            "word" => Ok(Some(Sample::Word(form(words.word(1)?)?, words.bytes))),
+            _ => Ok(None),
+        }
+    }
+
     pub(crate) fn read(words: Words<'a>) -> Result<Option<Sample<'a>>, Unread> {
         let sample = match words.word(0)? {
             "text" => Sample::Text(words.bytes),
             "texts" => Sample::Texts(words.number(1)?),
-            "word" => Sample::Word(form(words.word(1)?)?, words.bytes),
             "worked" => Sample::Worked,
-            _ => return Ok(None),
+            _ => return Sample::of_sheet(words),
         };
         Ok(Some(sample))
     }
@@ -75,8 +94,7 @@ impl<'a> Sample<'a> {
         match self {
             Sample::Text(bytes) if is_text(bytes) => Ok(Said::Fact("text")),
             Sample::Text(_) => Ok(Said::Fact("no text")),
-            Sample::Texts(length @ 0..=3) => Ok(Said::Number(texts_of(length))),
-            Sample::Texts(_) => Err(Unread::TooLong.into()),
+            Sample::Texts(length) => texts(length),
             Sample::Word(form, sheet) => word(form, sheet, desk),
             Sample::Worked => Ok(Said::Number(usize::from(worked_samples()))),
         }

@@ -18,7 +18,8 @@ fn judged(part: Part<'_>, head: usize) -> Result<Part<'_>, Refusal>
     ensures told { told_by part_of result ≡ judge head (part_of part.entry) }
     ensures same { IfOk result (λ x. x ≡ part.entry) }
 {
-    if !is_text(part.bytes) {
+    // No bytes are text: no pass is begun over none.
+    if !part.bytes.is_empty() && !is_text(part.bytes) {
         return Err(Refusal::at(Cause::NotText, head));
     }
     Ok(part)
