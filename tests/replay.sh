@@ -222,4 +222,12 @@ expect "no memory for an output" "copy 1 l 0 18446744073709551615 07
 copy 1 l 0 3 07" "not made: out of memory
 ok 3 4E3107"
 
+# Bytes are told a few at a time: all digits of this output would be 200 MB beside its 100.
+got=$(ulimit -v 200000 && echo 'copy 1 l 0 100000000 07' | "$bin" | cut -c1-16)
+if [ "$got" != "ok 3 4E3107EEEEE" ]; then
+    echo "tests/replay.sh: an output with no room for all of its digits: got $got"
+    exit 1
+fi
+passed=$((passed + 1))
+
 echo "tests/replay.sh: $passed passed"

@@ -6,10 +6,10 @@ use Rattle.std.proofs.lemmas.Bool.{ne_eqb, cases_eq}
 use Rattle.format.specs.Places.{limit, up, part, Holds, Bytes}
 use Rattle.format.specs.Orders.{Order, Undoes, low_first, number}
 use Rattle.format.specs.Answers.{Answer, good, both}
-use Rattle.format.specs.Sheets.{number_of, pointer_mark, array_mark, slice_mark}
+use Rattle.format.specs.Sheets.{number_of, pointer_mark, array_mark, far_array_mark, slice_mark}
 use Rattle.format.specs.Meaning.{Meaning, Belongs, Placed, Moved, Keeps, Laws}
 use Rattle.format.specs.Items.{row}
-use Rattle.format.specs.Links.{behind, linked, held, far, link, pointer, array, Span, slice_of_count, slice}
+use Rattle.format.specs.Links.{behind, linked, held, far, link, pointer, far_array, array, Span, slice_of_count, slice}
 use Rattle.format.proofs.ByteLists.{bytes-append, bytes_take, bytes-part, length_part, take_sum}
 use Rattle.format.proofs.OrderLaws.{width_4, number_lt, low_first-number}
 use Rattle.format.proofs.AnswerLaws.{unless-false, both-both}
@@ -48,6 +48,9 @@ link_laws mark m o bytes two k law = record {
 
 pub pointer_laws : (m : Meaning) (o : Order) → Laws m → Undoes o → Laws (pointer m o)
 pointer_laws m o k law = link_laws pointer_mark m o (lit< tt, (lit< tt, tt)) refl k.keeps law
+
+pub far_array_laws : (n : ℕ) (m : Meaning) (o : Order) → Laws m → Undoes o → Laws (far_array n m o)
+far_array_laws n m o k law = link_laws far_array_mark (row m n) o (lit< tt, (lit< tt, tt)) refl (row_keeps m n k) law
 
 -- items in the head itself, behind a mark
 pub array_laws : (n : ℕ) (m : Meaning) → 1 ≤ n → Laws m → Laws (array n m)

@@ -46,7 +46,11 @@ fn texts_of<const N: usize>() -> usize
     requires { N ≤ 3 }
 {
     (0..1u32 << (8 * N))
-        .filter(|n| requires { N ≤ 3 } { is_text(&n.to_be_bytes()[4 - N..]) })
+        .filter(
+            |n|
+                requires { N ≤ 3 }
+            { is_text(&n.to_be_bytes()[4 - N..]) },
+        )
         .count()
 }
 
