@@ -41,7 +41,7 @@ impl<'a> Line<'a> {
     }
 }
 
-// A call that can be refused, but for `new`.
+// What `tell` makes: a call that can be refused, but for `new`.
 fn told(words: Words, desk: &mut Desk, buffer: &mut [u8]) -> Result<Said, Trouble> {
     match Sample::of_sheet(words)? {
         Some(sample) => sample.answer(desk),
