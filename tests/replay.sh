@@ -222,6 +222,16 @@ expect "no memory for an output" "copy 1 l 0 18446744073709551615 07
 copy 1 l 0 3 07" "not made: out of memory
 ok 3 4E3107"
 
+# Bytes are told in blocks of 512: archives at the ends of blocks, whose digits are those that were pushed.
+for length in 0 1 511 512 513 1023 1024 1025; do
+    digits=$(for ((i = 0; i < length; i++)); do printf '%02X' $((i % 251)); done)
+    expect "an archive of $length bytes" "new $length
+push_bytes ${digits:--} 1
+finish" "ok
+ok 0
+ok $length 1 ${digits:--}"
+done
+
 # Bytes are told a few at a time: all digits of this output would be 200 MB beside its 100.
 got=$(ulimit -v 200000 && echo 'copy 1 l 0 100000000 07' | "$bin" | cut -c1-16)
 if [ "$got" != "ok 3 4E3107EEEEE" ]; then
